@@ -1,0 +1,186 @@
+-- The table as places are set in it, and the rounds of the closure. Assumes nothing.
+use Prim.Native.Nat.{ℕ, suc, _+_, _*_, _-_, _/_, _%_, _^_, _<_, _≤_}
+use native.Mathlib.Omega.{arith}
+use native.Mathlib.Numerals.{add-one}
+use native.Mathlib.Decide.{decLt, ℕ-discrete}
+use mathlib.Core.Path.{_≡_, refl, sym, ap, _∙_}
+use mathlib.Core.List.{List}
+use mathlib.Core.Logic.{by-cases}
+use mathlib.Core.Bool.{Bool, true, false, cond, _&&_, _||_, or-false, or-true, or-assoc, and-false, and-or-distrib-right}
+use borrow.Author.Tests.{lt-ltb, le-ltb, eq-eqb, ne-eqb}
+use lib.ListN.{length, getD, set, length-set}
+use lib.Seq.{getD-set-same, getD-set-other}
+use lib.Bits.{bitOr}
+use lib.Dec.{ltb, eqb}
+use Rattle.graph.specs.declared.Lowest.{Lowest}
+use Rattle.graph.specs.Loops.{lowest-same}
+use Rattle.graph.specs.Ways.{Leads, via, lowest, lowestLooped}
+use Rattle.graph.specs.Table.{bit, bit-zero, grid, Grown, Marked, Joined, Round, Closed}
+use Rattle.graph.proofs.Bits.{bit-or, bit-shifted, same-place}
+
+ltb-next : (b j : ℕ) → ltb b (j + 1) ≡ (ltb b j || eqb b j)
+ltb-next b j =
+    by-cases (decLt b j) (λ l. rw (lt-ltb b (j + 1) (omega arith), lt-ltb b j l))
+    (λ l. by-cases (ℕ-discrete b j)
+    (λ e. rw (lt-ltb b (j + 1) (omega arith), eq-eqb b j e) (sym (or-true (ltb b j))))
+    (λ e. rw (le-ltb b (j + 1) (omega arith), le-ltb b j (omega arith), ne-eqb b j e)))
+
+-- where x is j, what is said of j may be said of x
+at-same : (x j : ℕ) (f : ℕ → Bool) → (eqb x j && f j) ≡ (eqb x j && f x)
+at-same x j f =
+    by-cases (ℕ-discrete x j) (λ e. ap (λ (y : ℕ). eqb x j && f y) (sym e)) (λ n. rw (ne-eqb x j n))
+
+-- row k and column k do not change in round k, so that the code may work in place
+row-stays : (y p q : Bool) → (y || (p && (q && y))) ≡ y
+row-stays true p q = refl
+row-stays false true q = and-false q
+row-stays false false q = refl
+
+column-stays : (y p q : Bool) → (y || (p && (y && q))) ≡ y
+column-stays true p q = refl
+column-stays false true q = refl
+column-stays false false q = refl
+
+grown-none : {m : List ℕ} {more : Leads} → length m ≡ 4096 → ((a b : ℕ) → a < 512 → b < 512 → more a b ≡ false) → Grown m more m
+grown-none len h = record { long = len; places = λ a b p q. rw (h a b p q) (sym (or-false _)) }
+
+grown-as : {m m′ : List ℕ} {more more′ : Leads} → Grown m more m′
+    → ((a b : ℕ) → a < 512 → b < 512 → more a b ≡ more′ a b) → Grown m more′ m′
+grown-as g h = record { long = g .long; places = λ a b p q. g .places a b p q ∙ rw (h a b p q) }
+
+-- a loop's turns: turn j sets the places of h whose key is j
+module _ (key : ℕ → ℕ → ℕ) (h : Leads) (m₀ : List ℕ) where
+  abbrev pub Turns : ℕ → List ℕ → Type 0
+  Turns j m = Grown m₀ (λ a b. ltb (key a b) j && h a b) m
+
+  turns-start : length m₀ ≡ 4096 → Turns 0 m₀
+  turns-start len = grown-none len (λ a b p q. rw (le-ltb (key a b) 0 (omega arith)))
+
+  turns-on : (j : ℕ) (m m′ : List ℕ) → Turns j m → Grown m (λ a b. eqb (key a b) j && h a b) m′ → Turns (j + 1) m′
+  turns-on j m m′ r g =
+      record {
+        long = g .long;
+        places = λ a b p q.
+            g .places a b p q
+            ∙ rw (r .places a b p q, ltb-next (key a b) j, and-or-distrib-right (ltb (key a b) j) (eqb (key a b) j) (h a b))
+            (or-assoc (grid m₀ a b) (ltb (key a b) j && h a b) (eqb (key a b) j && h a b));
+      }
+
+-- word j of row i takes in the bits of v
+module _ (m : List ℕ) (i j v : ℕ) where
+  abbrev pub put : List ℕ
+  put = set m (i * 8 + j) (bitOr (getD m (i * 8 + j) 0) v)
+
+  abbrev bits : Leads
+  bits a b = eqb (b / 64) j && (eqb a i && bit v (b % 64))
+
+  module _ (len : length m ≡ 4096) (il : i < 512) (jl : j < 8) where
+    put-at : (a b : ℕ) → b < 512 → Dec (a ≡ i) → Dec (b / 64 ≡ j) → grid put a b ≡ (grid m a b || bits a b)
+    unfolding grid
+    put-at a b q (yes e) (yes f) =
+        rw (eq-eqb a i e, eq-eqb (b / 64) j f, e, f, getD-set-same m (i * 8 + j) _ 0 (omega arith)) (bit-or _ v (b % 64))
+    put-at a b q (yes e) (no f) =
+        rw (ne-eqb (b / 64) j f, getD-set-other m (i * 8 + j) (a * 8 + b / 64) _ 0 (λ z. f (omega arith))) (sym (or-false _))
+    put-at a b q (no e) f =
+        rw (ne-eqb a i e, and-false (eqb (b / 64) j), getD-set-other m (i * 8 + j) (a * 8 + b / 64) _ 0 (λ z. e (omega arith)))
+        (sym (or-false _))
+
+    stored : Grown m bits put
+    stored =
+        record {
+          long = length-set m (i * 8 + j) _ ∙ len;
+          places = λ a b p q. put-at a b q (ℕ-discrete a i) (ℕ-discrete (b / 64) j);
+        }
+
+module _ (m : List ℕ) (a b : ℕ) (len : length m ≡ 4096) where
+  pub marked : a < 512 → b < 512 → Marked m a b (put m a (b / 64) (1 * 2 ^ (b % 64) % 2 ^ 64))
+  marked al bl =
+      grown-as (stored m a (b / 64) (1 * 2 ^ (b % 64) % 2 ^ 64) len al (omega arith))
+      (λ x y p q. rw (bit-shifted (b % 64) (y % 64) (omega arith)) (same-place (eqb x a) y b))
+
+  pub unmarked : 512 ≤ b → Marked m a b m
+  unmarked h = grown-none len (λ x y p q. rw (ne-eqb y b (λ e. omega arith)) (and-false (eqb x a)))
+
+pub empty : (m : List ℕ) (a : ℕ) → ((j : ℕ) → j < 8 → getD m (a * 8 + j) 0 ≡ 0) → (b : ℕ) → b < 512 → grid m a b ≡ false
+unfolding grid
+empty m a h b l = rw (h (b / 64) (omega arith)) (bit-zero (b % 64))
+
+-- row i has taken in the words of row k below j
+abbrev pub Words : List ℕ → (i k j : ℕ) → List ℕ → Type 0
+Words m₀ i k = Turns (λ a b. b / 64) (λ a b. eqb a i && grid m₀ k b) m₀
+
+module _ (m₀ : List ℕ) (i k : ℕ) where
+  pub words-start : length m₀ ≡ 4096 → Words m₀ i k 0 m₀
+  words-start len = turns-start (λ a b. b / 64) (λ a b. eqb a i && grid m₀ k b) m₀ len
+
+  pub words-on : (j : ℕ) (m : List ℕ) → Words m₀ i k j m → i < 512 → k < 512 → j < 8
+      → Words m₀ i k (j + 1) (put m i j (getD m (k * 8 + j) 0))
+  unfolding grid
+  words-on j m r il kl jl =
+      turns-on _ _ m₀ j m _ r
+      (grown-as (stored m i j (getD m (k * 8 + j) 0) (r .long) il jl)
+      (λ a b p q. at-same (b / 64) j (λ z. eqb a i && bit (getD m (k * 8 + z) 0) (b % 64))
+      ∙ rw (r .places k b kl q, row-stays)))
+
+  pub words-end : (j : ℕ) (m : List ℕ) → 8 ≤ j → Words m₀ i k j m → Joined m₀ i k m
+  words-end j m h r = grown-as r (λ a b p q. rw (lt-ltb (b / 64) j (omega arith)))
+
+-- the rows below i have been through round k
+abbrev pub Rows : List ℕ → (k i : ℕ) → List ℕ → Type 0
+Rows m₀ k = Turns (λ a b. a) (λ a b. grid m₀ a k && grid m₀ k b) m₀
+
+pub rows-start : (m₀ : List ℕ) (k : ℕ) → length m₀ ≡ 4096 → Rows m₀ k 0 m₀
+rows-start m₀ k len = turns-start (λ a b. a) (λ a b. grid m₀ a k && grid m₀ k b) m₀ len
+
+module _ (m₀ : List ℕ) (k i : ℕ) (m : List ℕ) (r : Rows m₀ k i m) (kl : k < 512) where
+  rows-on : (m′ : List ℕ) → Grown m (λ a b. eqb a i && (grid m i k && grid m k b)) m′ → Rows m₀ k (i + 1) m′
+  rows-on m′ g =
+      turns-on _ _ m₀ i m m′ r
+      (grown-as g
+      (λ a b p q. at-same a i (λ z. grid m z k && grid m k b)
+      ∙ rw (r .places a k p kl, r .places k b kl q, column-stays, row-stays)))
+
+  pub took : (m′ m″ : List ℕ) → grid m i k ≡ true → Joined m i k m′ → m″ ≡ m′ → Rows m₀ k (i + 1) m″
+  took m′ m″ h j e = rw e (rows-on m′ (grown-as j (λ a b p q. rw h)))
+
+  pub kept : (m′ : List ℕ) → grid m i k ≡ false → m′ ≡ m → Rows m₀ k (i + 1) m′
+  kept m′ h e = rw e (rows-on m (grown-none (r .long) (λ a b p q. rw h (and-false (eqb a i)))))
+
+pub round-none : (m : List ℕ) (k n : ℕ) → length m ≡ 4096 → ((b : ℕ) → b < 512 → grid m k b ≡ false) → Round m k n m
+round-none m k n len h = grown-none len (λ a b p q. rw (h b q, and-false (grid m a k)) (and-false (ltb a n)))
+
+pub closed-start : (m : List ℕ) (n : ℕ) → length m ≡ 4096 → Closed m 0 n m
+unfolding via
+closed-start m n len = record { long = len; ways = λ a b p q. refl }
+
+pub closed-on : (m₀ : List ℕ) (k n : ℕ) (m m′ : List ℕ) → k < n → n ≤ 512 → Closed m₀ k n m → Round m k n m′
+    → Closed m₀ (k + 1) n m′
+unfolding via
+closed-on m₀ k n m m′ l h c r =
+    record {
+      long = r .long;
+      ways = λ a b p q.
+          rw add-one
+          (r .places a b (omega arith) (omega arith)
+          ∙ rw (lt-ltb a n p, c .ways a b p q, c .ways a k p l, c .ways k b l q));
+    }
+
+pub lowest-is : (m m′ : List ℕ) (n : ℕ) (r : Lowest) → Closed m n n m′ → r ≡ lowest (λ i. grid m′ i i) n 0
+    → r ≡ lowestLooped (grid m) n
+lowest-is m m′ n r c e = e ∙ lowest-same _ _ n 0 (λ j l. c .ways j j (omega arith) (omega arith))
+
+-- the search for the lowest number goes on at i
+module _ (p : ℕ → Bool) (n i : ℕ) where
+  low-on : i < n → lowest p (n - i) i ≡ cond (p i) (Lowest.At i) (lowest p (n - (i + 1)) (i + 1))
+  unfolding lowest
+  low-on h = let z : n - i ≡ suc (n - (i + 1)) = omega arith in rw (z, add-one)
+
+  pub low-at : i < n → p i ≡ true → lowest p (n - i) i ≡ Lowest.At i
+  low-at h e = low-on h ∙ rw e
+
+  pub low-next : i < n → p i ≡ false → lowest p (n - i) i ≡ lowest p (n - (i + 1)) (i + 1)
+  low-next h e = low-on h ∙ rw e
+
+  pub low-none : n ≤ i → lowest p (n - i) i ≡ Lowest.Nowhere
+  unfolding lowest
+  low-none h = let z : n - i ≡ 0 = omega arith in rw z

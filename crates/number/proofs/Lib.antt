@@ -1,0 +1,4 @@
+pub mod Groups
+pub mod Laws
+pub mod InRange
+pub mod Reading

@@ -1,0 +1,170 @@
+-- The ten kinds of slots.
+use Prim.Native.Nat.{ℕ, _^_}
+use mathlib.Core.List.{List, [], _∷_}
+use mathlib.Core.Option.{Option, none, some}
+use lib.ListN.{getD}
+use Rattle.number.specs.Grammar.{kind, name, slot, value, Grammar, give, _>>=_, number, counted}
+use Rattle.tree.specs.Tree.{Tree}
+use Rattle.tree.specs.TreeAt.{noKind}
+use Rattle.slot.specs.Field.{typeAt, expressionAt, Span, spanAt, Stored, storedAt, Field, fieldsAt}
+
+pub record Message : Type 0 where
+  pub span : Span
+  pub stored : Stored
+  pub fields : List Field
+
+unfoldable pub messageAt : (names : ℕ) → Grammar Message
+messageAt names = do
+  p ← spanAt
+  z ← storedAt
+  fs ← fieldsAt names
+  give (record { span = p; stored = z; fields = fs })
+
+-- the ordinals of an enum, or the bits of a flags type
+pub record Ordinals : Type 0 where
+  pub live : List ℕ
+
+unfoldable pub ordinalsAt : Grammar Ordinals
+ordinalsAt = do
+  os ← counted (number value (2 ^ 32))
+  give (record { live = os })
+
+-- the backing is 0 for none and 1 to 4 for U8 to U64; non_exhaustive is 0 or 1
+pub record Enum : Type 0 where
+  pub backing : ℕ
+  pub nonExhaustive : ℕ
+  pub storedBits : ℕ
+  pub ordinals : Ordinals
+
+unfoldable pub enumAt : Grammar Enum
+enumAt = do
+  b ← number value 5
+  x ← number value 2
+  w ← number value 256
+  os ← ordinalsAt
+  give (record { backing = b; nonExhaustive = x; storedBits = w; ordinals = os })
+
+pub record Flags : Type 0 where
+  pub storedBytes : ℕ
+  pub bits : Ordinals
+
+unfoldable pub flagsAt : Grammar Flags
+flagsAt = do
+  w ← number value 256
+  bs ← ordinalsAt
+  give (record { storedBytes = w; bits = bs })
+
+pub record Union : Type 0 where
+  pub stored : Stored
+  pub variants : List (List Field)
+
+unfoldable pub unionAt : (names : ℕ) → Grammar Union
+unionAt names = do
+  z ← storedAt
+  vs ← counted (fieldsAt names)
+  give (record { stored = z; variants = vs })
+
+pub record Newtype : Type 0 where
+  pub inner : Tree
+  pub terminal : Tree
+
+unfoldable pub newtypeAt : (names : ℕ) → Grammar Newtype
+newtypeAt names = do
+  i ← typeAt names
+  t ← typeAt names
+  give (record { inner = i; terminal = t })
+
+-- a generic alias
+pub record Alias : Type 0 where
+  pub parameters : List ℕ
+  pub target : Tree
+
+unfoldable pub aliasAt : (names : ℕ) → Grammar Alias
+aliasAt names = do
+  ps ← counted (number name names)
+  e ← expressionAt names
+  give (record { parameters = ps; target = e })
+
+pub record TraitField : Type 0 where
+  pub fieldName : ℕ
+  pub type : Tree
+
+unfoldable pub traitFieldAt : (names : ℕ) → Grammar TraitField
+traitFieldAt names = do
+  n ← number name names
+  e ← expressionAt names
+  give (record { fieldName = n; type = e })
+
+pub record Trait : Type 0 where
+  pub parameters : List ℕ
+  pub fields : List TraitField
+
+unfoldable pub traitAt : (names : ℕ) → Grammar Trait
+traitAt names = do
+  ps ← counted (number name names)
+  fs ← counted (traitFieldAt names)
+  give (record { parameters = ps; fields = fs })
+
+-- the trait is 0 for none, else a slot + 1
+pub record Impl : Type 0 where
+  pub span : Span
+  pub traitId : ℕ
+  pub traitSpan : Option Span
+  pub arguments : List Tree
+  pub target : Tree
+
+-- 0, or 1 and then a span
+unfoldable pub traitSpanAt : Grammar (Option Span)
+traitSpanAt = do
+  k ← number kind 2
+  getD (give none ∷ (do p ← spanAt; give (some p)) ∷ []) k noKind
+
+unfoldable pub implAt : (names : ℕ) → Grammar Impl
+implAt names = do
+  p ← spanAt
+  i ← number slot (2 ^ 32)
+  q ← traitSpanAt
+  ts ← counted (typeAt names)
+  t ← typeAt names
+  give (record { span = p; traitId = i; traitSpan = q; arguments = ts; target = t })
+
+pub data Slot : Type 0 where
+  empty : Slot
+  message : Message → Slot
+  enum : Enum → Slot
+  flags : Flags → Slot
+  union : Union → Slot
+  newtype : Newtype → Slot
+  config : Slot
+  alias : Alias → Slot
+  trait : Trait → Slot
+  impl : Impl → Slot
+
+-- a slot of one kind
+abbrev pub made : {A : Type 0} → (A → Slot) → Grammar A → Grammar Slot
+made f g = do
+  x ← g
+  give (f x)
+
+-- what each kind holds, from kind 0 on
+abbrev pub slotTable : (names : ℕ) → List (Grammar Slot)
+slotTable names =
+    give empty
+    ∷ made message (messageAt names)
+    ∷ made enum enumAt
+    ∷ made flags flagsAt
+    ∷ made union (unionAt names)
+    ∷ made newtype (newtypeAt names)
+    ∷ give config
+    ∷ made alias (aliasAt names)
+    ∷ made trait (traitAt names)
+    ∷ made impl (implAt names)
+    ∷ []
+
+unfoldable pub slotBodyAt : (names k : ℕ) → Grammar Slot
+slotBodyAt names k = getD (slotTable names) k noKind
+
+unfoldable pub slotAt : (names : ℕ) → Grammar Slot
+slotAt names = do
+  k ← number kind 10
+  slotBodyAt names k

@@ -1,0 +1,298 @@
+// Slots of the schema image. A cursor is the position that was reached, or the refusal that was met: each function takes
+// one and gives the next.
+use number::Next;
+use number::Ranged;
+use tree::Sort;
+ghost use mathlib.Core.Path.{_≡_};
+ghost use Rattle.number.specs.Grammar.{many, counted, read};
+ghost use Rattle.number.specs.Answers.{next, follow};
+ghost use Rattle.slot.specs.Field.{typeAt, spanAt, storedAt, fieldAt, fieldsAt};
+ghost use Rattle.slot.specs.Slot.{messageAt, ordinalsAt, enumAt, flagsAt, unionAt, newtypeAt, aliasAt, traitFieldAt, traitAt, traitSpanAt, implAt, slotBodyAt, slotAt};
+
+pub fn skip_span(image: &[u8], cursor: Next) -> Next
+    ensures { λ r. ⌜ r ≡ follow cursor (λ n. next (read spanAt (now (image .entry)) n)) ⌝ }
+{
+    let offset = number::skip(image, cursor, 4294967296);
+    number::skip(image, offset, 4294967296)
+}
+
+fn read_stored(image: &[u8], at: usize) -> Next
+    ensures { λ r. ⌜ r ≡ next (read storedAt (now (image .entry)) at) ⌝ }
+{
+    match number::read_below(image, at, 4) {
+        Ranged::Value(kind, after) => match kind {
+            0 => Next::At(after),
+            1 => number::skip_below(image, after, 9223372036854775808),
+            2 => number::skip_below(image, after, 9223372036854775808),
+            3 => {
+                let smallest = number::skip_below(image, after, 9223372036854775808);
+                number::skip(image, smallest, 9223372036854775808)
+            }
+            _ => Next::Refused(4, after),
+        },
+        Ranged::Refused(r, q) => Next::Refused(r, q),
+    }
+}
+
+pub fn skip_stored(image: &[u8], cursor: Next) -> Next
+    ensures { λ r. ⌜ r ≡ follow cursor (λ n. next (read storedAt (now (image .entry)) n)) ⌝ }
+{
+    match cursor {
+        Next::At(p) => read_stored(image, p),
+        Next::Refused(r, q) => Next::Refused(r, q),
+    }
+}
+
+pub fn skip_field(image: &[u8], cursor: Next, names: u64) -> Next
+    ensures { λ r. ⌜ r ≡ follow cursor (λ n. next (read (fieldAt names) (now (image .entry)) n)) ⌝ }
+{
+    let name = number::skip(image, cursor, names);
+    let encoding = tree::skip_encoding(image, name);
+    tree::skip_tree(image, encoding, Sort::Resolved, names)
+}
+
+fn read_fields(image: &[u8], at: usize, count: u64, names: u64) -> Next
+    ensures { λ r. ⌜ r ≡ next (read (many count (fieldAt names)) (now (image .entry)) at) ⌝ }
+{
+    let mut left = count;
+    let mut p = at;
+    while 0 < left {
+        match skip_field(image, Next::At(p), names) {
+            Next::At(after) => {
+                p = after;
+                left -= 1;
+            }
+            Next::Refused(r, q) => {
+                return Next::Refused(r, q);
+            }
+        }
+    }
+    Next::At(p)
+}
+
+pub fn skip_fields(image: &[u8], cursor: Next, names: u64) -> Next
+    ensures { λ r. ⌜ r ≡ follow cursor (λ n. next (read (fieldsAt names) (now (image .entry)) n)) ⌝ }
+{
+    match cursor {
+        Next::At(p) => match number::read_below(image, p, 65537) {
+            Ranged::Value(count, after) => read_fields(image, after, count, names),
+            Ranged::Refused(r, q) => Next::Refused(r, q),
+        },
+        Next::Refused(r, q) => Next::Refused(r, q),
+    }
+}
+
+fn skip_message(image: &[u8], cursor: Next, names: u64) -> Next
+    ensures { λ r. ⌜ r ≡ follow cursor (λ n. next (read (messageAt names) (now (image .entry)) n)) ⌝ }
+{
+    let span = skip_span(image, cursor);
+    let stored = skip_stored(image, span);
+    skip_fields(image, stored, names)
+}
+
+// One place reads the ordinals of an enum and the bits of a flags type.
+fn skip_ordinals(image: &[u8], cursor: Next) -> Next
+    ensures { λ r. ⌜ r ≡ follow cursor (λ n. next (read ordinalsAt (now (image .entry)) n)) ⌝ }
+{
+    number::skip_counted(image, cursor, 4294967296)
+}
+
+fn skip_enum(image: &[u8], cursor: Next) -> Next
+    ensures { λ r. ⌜ r ≡ follow cursor (λ n. next (read enumAt (now (image .entry)) n)) ⌝ }
+{
+    let backing = number::skip(image, cursor, 5);
+    let non_exhaustive = number::skip(image, backing, 2);
+    let stored_bits = number::skip(image, non_exhaustive, 256);
+    skip_ordinals(image, stored_bits)
+}
+
+fn skip_flags(image: &[u8], cursor: Next) -> Next
+    ensures { λ r. ⌜ r ≡ follow cursor (λ n. next (read flagsAt (now (image .entry)) n)) ⌝ }
+{
+    let stored_bytes = number::skip(image, cursor, 256);
+    skip_ordinals(image, stored_bytes)
+}
+
+fn read_variants(image: &[u8], at: usize, count: u64, names: u64) -> Next
+    ensures { λ r. ⌜ r ≡ next (read (many count (fieldsAt names)) (now (image .entry)) at) ⌝ }
+{
+    let mut left = count;
+    let mut p = at;
+    while 0 < left {
+        match skip_fields(image, Next::At(p), names) {
+            Next::At(after) => {
+                p = after;
+                left -= 1;
+            }
+            Next::Refused(r, q) => {
+                return Next::Refused(r, q);
+            }
+        }
+    }
+    Next::At(p)
+}
+
+fn skip_variants(image: &[u8], cursor: Next, names: u64) -> Next
+    ensures { λ r. ⌜ r ≡ follow cursor (λ n. next (read (counted (fieldsAt names)) (now (image .entry)) n)) ⌝ }
+{
+    match cursor {
+        Next::At(p) => match number::read_below(image, p, 65537) {
+            Ranged::Value(count, after) => read_variants(image, after, count, names),
+            Ranged::Refused(r, q) => Next::Refused(r, q),
+        },
+        Next::Refused(r, q) => Next::Refused(r, q),
+    }
+}
+
+fn skip_union(image: &[u8], cursor: Next, names: u64) -> Next
+    ensures { λ r. ⌜ r ≡ follow cursor (λ n. next (read (unionAt names) (now (image .entry)) n)) ⌝ }
+{
+    let stored = skip_stored(image, cursor);
+    skip_variants(image, stored, names)
+}
+
+fn skip_newtype(image: &[u8], cursor: Next, names: u64) -> Next
+    ensures { λ r. ⌜ r ≡ follow cursor (λ n. next (read (newtypeAt names) (now (image .entry)) n)) ⌝ }
+{
+    let inner = tree::skip_tree(image, cursor, Sort::Resolved, names);
+    tree::skip_tree(image, inner, Sort::Resolved, names)
+}
+
+fn skip_alias(image: &[u8], cursor: Next, names: u64) -> Next
+    ensures { λ r. ⌜ r ≡ follow cursor (λ n. next (read (aliasAt names) (now (image .entry)) n)) ⌝ }
+{
+    let parameters = number::skip_counted(image, cursor, names);
+    tree::skip_tree(image, parameters, Sort::Expression, names)
+}
+
+pub fn skip_trait_field(image: &[u8], cursor: Next, names: u64) -> Next
+    ensures { λ r. ⌜ r ≡ follow cursor (λ n. next (read (traitFieldAt names) (now (image .entry)) n)) ⌝ }
+{
+    let name = number::skip(image, cursor, names);
+    tree::skip_tree(image, name, Sort::Expression, names)
+}
+
+fn read_trait_fields(image: &[u8], at: usize, count: u64, names: u64) -> Next
+    ensures { λ r. ⌜ r ≡ next (read (many count (traitFieldAt names)) (now (image .entry)) at) ⌝ }
+{
+    let mut left = count;
+    let mut p = at;
+    while 0 < left {
+        match skip_trait_field(image, Next::At(p), names) {
+            Next::At(after) => {
+                p = after;
+                left -= 1;
+            }
+            Next::Refused(r, q) => {
+                return Next::Refused(r, q);
+            }
+        }
+    }
+    Next::At(p)
+}
+
+fn skip_trait_fields(image: &[u8], cursor: Next, names: u64) -> Next
+    ensures { λ r. ⌜ r ≡ follow cursor (λ n. next (read (counted (traitFieldAt names)) (now (image .entry)) n)) ⌝ }
+{
+    match cursor {
+        Next::At(p) => match number::read_below(image, p, 65537) {
+            Ranged::Value(count, after) => read_trait_fields(image, after, count, names),
+            Ranged::Refused(r, q) => Next::Refused(r, q),
+        },
+        Next::Refused(r, q) => Next::Refused(r, q),
+    }
+}
+
+fn skip_trait(image: &[u8], cursor: Next, names: u64) -> Next
+    ensures { λ r. ⌜ r ≡ follow cursor (λ n. next (read (traitAt names) (now (image .entry)) n)) ⌝ }
+{
+    let parameters = number::skip_counted(image, cursor, names);
+    skip_trait_fields(image, parameters, names)
+}
+
+fn skip_trait_span(image: &[u8], cursor: Next) -> Next
+    ensures { λ r. ⌜ r ≡ follow cursor (λ n. next (read traitSpanAt (now (image .entry)) n)) ⌝ }
+{
+    match cursor {
+        Next::At(p) => match number::read_below(image, p, 2) {
+            Ranged::Value(given, after) => {
+                if given == 0 {
+                    Next::At(after)
+                } else {
+                    skip_span(image, Next::At(after))
+                }
+            }
+            Ranged::Refused(r, q) => Next::Refused(r, q),
+        },
+        Next::Refused(r, q) => Next::Refused(r, q),
+    }
+}
+
+fn read_types(image: &[u8], at: usize, count: u64, names: u64) -> Next
+    ensures { λ r. ⌜ r ≡ next (read (many count (typeAt names)) (now (image .entry)) at) ⌝ }
+{
+    let mut left = count;
+    let mut p = at;
+    while 0 < left {
+        match tree::read_tree(image, p, 32, Sort::Resolved, names) {
+            Next::At(after) => {
+                p = after;
+                left -= 1;
+            }
+            Next::Refused(r, q) => {
+                return Next::Refused(r, q);
+            }
+        }
+    }
+    Next::At(p)
+}
+
+fn skip_types(image: &[u8], cursor: Next, names: u64) -> Next
+    ensures { λ r. ⌜ r ≡ follow cursor (λ n. next (read (counted (typeAt names)) (now (image .entry)) n)) ⌝ }
+{
+    match cursor {
+        Next::At(p) => match number::read_below(image, p, 65537) {
+            Ranged::Value(count, after) => read_types(image, after, count, names),
+            Ranged::Refused(r, q) => Next::Refused(r, q),
+        },
+        Next::Refused(r, q) => Next::Refused(r, q),
+    }
+}
+
+fn skip_impl(image: &[u8], cursor: Next, names: u64) -> Next
+    ensures { λ r. ⌜ r ≡ follow cursor (λ n. next (read (implAt names) (now (image .entry)) n)) ⌝ }
+{
+    let span = skip_span(image, cursor);
+    let trait_id = number::skip(image, span, 4294967296);
+    let trait_span = skip_trait_span(image, trait_id);
+    let arguments = skip_types(image, trait_span, names);
+    tree::skip_tree(image, arguments, Sort::Resolved, names)
+}
+
+// What a slot of a kind holds.
+fn read_slot_body(image: &[u8], at: usize, kind: u64, names: u64) -> Next
+    ensures { λ r. ⌜ r ≡ next (read (slotBodyAt names kind) (now (image .entry)) at) ⌝ }
+{
+    let body = Next::At(at);
+    match kind {
+        0 | 6 => body,
+        1 => skip_message(image, body, names),
+        2 => skip_enum(image, body),
+        3 => skip_flags(image, body),
+        4 => skip_union(image, body, names),
+        5 => skip_newtype(image, body, names),
+        7 => skip_alias(image, body, names),
+        8 => skip_trait(image, body, names),
+        9 => skip_impl(image, body, names),
+        _ => Next::Refused(4, at),
+    }
+}
+
+pub fn read_slot(image: &[u8], at: usize, names: u64) -> Next
+    ensures { λ r. ⌜ r ≡ next (read (slotAt names) (now (image .entry)) at) ⌝ }
+{
+    match number::read_below(image, at, 10) {
+        Ranged::Value(kind, body) => read_slot_body(image, body, kind, names),
+        Ranged::Refused(r, q) => Next::Refused(r, q),
+    }
+}
