@@ -48,6 +48,14 @@ unfolding andThen
 then-then (done a n) f g = refl
 then-then (refused r p) f g = refl
 
+pub then-on : {A B : Type 0} (m : Outcome A) (f : A → ℕ → Outcome B) {a : A} {n : ℕ} → m ≡ done a n → andThen m f ≡ f a n
+unfolding andThen
+then-on m f e = rw e
+
+pub then-stop : {A B : Type 0} (m : Outcome A) (f : A → ℕ → Outcome B) {r p : ℕ} → m ≡ refused r p → andThen m f ≡ refused r p
+unfolding andThen
+then-stop m f e = rw e
+
 -- reading a sequence is reading its first part, and then what follows
 pub read-bind : {A B : Type 0} (g : Grammar A) (f : A → Grammar B) (s : List ℕ) (at : ℕ)
     → read (_>>=_ g f) s at ≡ andThen (read g s at) (λ a n. read (f a) s n)

@@ -1,0 +1,118 @@
+-- The image: names, slots and declarations, and nothing after them. Refusals 1 to 6.
+use Prim.Native.Nat.{ℕ, _^_}
+use mathlib.Core.List.{List, [], _∷_}
+use mathlib.Core.Bool.{cond}
+use lib.ListN.{length}
+use lib.Dec.{ltb}
+use Rattle.number.specs.Grammar.{slot, count, Grammar, give, _>>=_, number, here, many, Outcome, done, refused, read}
+use Rattle.slot.specs.Slot.{Slot, slotAt}
+use Rattle.image.specs.Schema.{Schema}
+use Rattle.image.specs.declared.Frame.{Frame}
+use Rattle.image.specs.declared.Framed.{Framed}
+use Rattle.image.specs.declared.Fronted.{Fronted}
+use Rattle.image.specs.declared.Ended.{Ended}
+
+-- how many names there are, what each finds and where that stands, and how many slots there are
+pub record Front : Type 0 where
+  pub names : ℕ
+  pub findsPlace : ℕ
+  pub finds : List ℕ
+  pub slotCount : ℕ
+
+abbrev pub frontWith : (names findsPlace : ℕ) → (finds : List ℕ) → (slotCount : ℕ) → Front
+frontWith n p fs c = record { names = n; findsPlace = p; finds = fs; slotCount = c }
+
+unfoldable pub frontAt : Grammar Front
+frontAt = do
+  n ← number count 4097
+  p ← here
+  fs ← many n (number slot 513)
+  c ← number count 513
+  give (frontWith n p fs c)
+
+-- a slot, with the position at which it starts
+pub record Placed : Type 0 where
+  pub start : ℕ
+  pub content : Slot
+
+unfoldable pub placedAt : (names : ℕ) → Grammar Placed
+placedAt names = do
+  p ← here
+  x ← slotAt names
+  give (record { start = p; content = x })
+
+-- how many declarations there are, where they stand, and the slots declared
+pub record Declared : Type 0 where
+  pub declarations : ℕ
+  pub declaredPlace : ℕ
+  pub declared : List ℕ
+
+unfoldable pub declaredAt : Grammar Declared
+declaredAt = do
+  c ← number count 1025
+  p ← here
+  ds ← many c (number slot (2 ^ 32))
+  give (record { declarations = c; declaredPlace = p; declared = ds })
+
+pub record Image : Type 0 where
+  pub front : Front
+  pub slots : List Placed
+  pub declared : Declared
+
+-- the image of a front and slots, and the declarations that follow them
+unfoldable pub endAt : Front → List Placed → Grammar Image
+endAt f ss = do
+  d ← declaredAt
+  give (record { front = f; slots = ss; declared = d })
+
+unfoldable pub imageAt : Grammar Image
+imageAt = do
+  f ← frontAt
+  ss ← many (f .slotCount) (placedAt (f .names))
+  endAt f ss
+
+-- refusal 6 at the first byte after the last declaration
+unfoldable pub whole : List ℕ → Outcome Image → Outcome Image
+whole s (done i n) = cond (ltb n (length s)) (refused 6 n) (done i n)
+whole s (refused r p) = refused r p
+
+-- refusal 1 for an image above 65,536 bytes
+unfoldable pub imageOf : List ℕ → Outcome Image
+imageOf s = cond (ltb 65536 (length s)) (refused 1 0) (whole s (read imageAt s 0))
+
+-- where the slots start, and what they hold
+unfoldable pub startsOf : List Placed → List ℕ
+startsOf [] = []
+startsOf (x ∷ xs) = x .start ∷ startsOf xs
+
+unfoldable pub contentsOf : List Placed → List Slot
+contentsOf [] = []
+contentsOf (x ∷ xs) = x .content ∷ contentsOf xs
+
+-- the schema of an image
+unfoldable pub schemaIn : Image → Schema
+schemaIn i = record { finds = i .front .finds; slots = contentsOf (i .slots); declared = i .declared .declared }
+
+-- where the parts of an image stand
+unfoldable pub frameIn : Image → Frame
+frameIn i =
+    record {
+      names = i .front .names;
+      finds = i .front .findsPlace;
+      slots = i .front .slotCount;
+      declarations = i .declared .declarations;
+      declared = i .declared .declaredPlace;
+    }
+
+-- what the code's answers say
+abbrev pub framed : Outcome Image → Framed
+framed (done i n) = Framed.Read (frameIn i)
+framed (refused r p) = Framed.Refused r p
+
+abbrev pub fronted : Outcome Front → Fronted
+fronted (done f n) = Fronted.Read (f .names) (f .findsPlace) (f .slotCount) n
+fronted (refused r p) = Fronted.Refused r p
+
+abbrev pub ended : Outcome Declared → Ended
+ended (done d n) = Ended.Read (d .declarations) (d .declaredPlace) n
+ended (refused r p) = Ended.Refused r p
