@@ -26,7 +26,7 @@ ltb-next b j =
     (λ e. rw (le-ltb b (j + 1) (omega arith), le-ltb b j (omega arith), ne-eqb b j e)))
 
 -- where x is j, what is said of j may be said of x
-at-same : (x j : ℕ) (f : ℕ → Bool) → (eqb x j && f j) ≡ (eqb x j && f x)
+pub at-same : (x j : ℕ) (f : ℕ → Bool) → (eqb x j && f j) ≡ (eqb x j && f x)
 at-same x j f =
     by-cases (ℕ-discrete x j) (λ e. ap (λ (y : ℕ). eqb x j && f y) (sym e)) (λ n. rw (ne-eqb x j n))
 
@@ -41,10 +41,10 @@ column-stays true p q = refl
 column-stays false true q = refl
 column-stays false false q = refl
 
-grown-none : {m : List ℕ} {more : Leads} → length m ≡ 4096 → ((a b : ℕ) → a < 512 → b < 512 → more a b ≡ false) → Grown m more m
+pub grown-none : {m : List ℕ} {more : Leads} → length m ≡ 4096 → ((a b : ℕ) → a < 512 → b < 512 → more a b ≡ false) → Grown m more m
 grown-none len h = record { long = len; places = λ a b p q. rw (h a b p q) (sym (or-false _)) }
 
-grown-as : {m m′ : List ℕ} {more more′ : Leads} → Grown m more m′
+pub grown-as : {m m′ : List ℕ} {more more′ : Leads} → Grown m more m′
     → ((a b : ℕ) → a < 512 → b < 512 → more a b ≡ more′ a b) → Grown m more′ m′
 grown-as g h = record { long = g .long; places = λ a b p q. g .places a b p q ∙ rw (h a b p q) }
 
@@ -53,10 +53,10 @@ module _ (key : ℕ → ℕ → ℕ) (h : Leads) (m₀ : List ℕ) where
   abbrev pub Turns : ℕ → List ℕ → Type 0
   Turns j m = Grown m₀ (λ a b. ltb (key a b) j && h a b) m
 
-  turns-start : length m₀ ≡ 4096 → Turns 0 m₀
+  pub turns-start : length m₀ ≡ 4096 → Turns 0 m₀
   turns-start len = grown-none len (λ a b p q. rw (le-ltb (key a b) 0 (omega arith)))
 
-  turns-on : (j : ℕ) (m m′ : List ℕ) → Turns j m → Grown m (λ a b. eqb (key a b) j && h a b) m′ → Turns (j + 1) m′
+  pub turns-on : (j : ℕ) (m m′ : List ℕ) → Turns j m → Grown m (λ a b. eqb (key a b) j && h a b) m′ → Turns (j + 1) m′
   turns-on j m m′ r g =
       record {
         long = g .long;

@@ -41,7 +41,7 @@ lowest-at p (suc n) i x h = go (p i) refl h (λ k. lowest-at p n (suc i) x k)
         let r = f h in
         (r .0, λ j l m. by-cases (ℕ-discrete i j) (λ q. ap p (sym q) ∙ e) (λ q. r .1 j (omega arith) m))
 
-lowest-none : (p : ℕ → Bool) (n i : ℕ) → lowest p n i ≡ Lowest.Nowhere → (j : ℕ) → i ≤ j → j < i + n → p j ≡ false
+pub lowest-none : (p : ℕ → Bool) (n i : ℕ) → lowest p n i ≡ Lowest.Nowhere → (j : ℕ) → i ≤ j → j < i + n → p j ≡ false
 unfolding lowest
 lowest-none p zero i h j l m = absurd (omega arith)
 lowest-none p (suc n) i h j l m = go (p i) refl h (λ k. lowest-none p n (suc i) k j)

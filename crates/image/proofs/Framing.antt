@@ -13,7 +13,8 @@ use borrow.Author.Tests.{lt-ltb, le-ltb, ltb-false}
 use Rattle.number.specs.Grammar.{slot, count, Grammar, give, _>>=_, number, here, many, Outcome, done, refused, andThen, below, read}
 use Rattle.number.specs.Answers.{next}
 use Rattle.number.specs.declared.Next.{Next}
-use Rattle.number.proofs.Reading.{read-bind, read-done, then-on, then-stop, then-done, number-on, number-refused, next-at, next-refused, given}
+use Rattle.number.proofs.Reading.{read-bind, read-number, read-done, then-on, then-stop, then-done, number-on, number-refused, next-at, next-refused, given}
+use Rattle.number.proofs.InRange.{below-is}
 use Rattle.image.specs.Image.{Front, frontWith, frontAt, Placed, placedAt, Declared, declaredAt, Image, endAt, imageAt, whole, imageOf, startsOf, frameIn, framed, fronted, ended}
 use Rattle.image.specs.declared.Framed.{Framed}
 use Rattle.image.specs.declared.Fronted.{Fronted}
@@ -194,6 +195,44 @@ module _ (s : List ℕ) where
           let a = next-at (read (many c (placedAt names)) s at) g in
           let t : imageOf s ≡ whole s (read (endAt (frontWith names finds (f .0) c) (a .0)) s p) = small ∙ ap (whole s) (then-on _ _ (f .1) ∙ then-on _ _ (a .1)) in
           (y (f .0) (a .0) ∙ sym (ap framed t), λ i n q. w (a .0) p (a .1) ∙ ap (λ (ss : List Placed). sets l 0 (startsOf ss)) (sym (ending-is (frontWith names finds (f .0) c) (a .0) p i n (whole-done _ i n (sym t ∙ q)) .slotsSame)))
+
+-- the parts of a front that was read
+pub record FrontParts (s : List ℕ) (f : Front) : Type 0 where
+  pub fewNames : f .names ≤ 4096
+  pub findsEnd : ℕ
+  pub findsRead : read (many (f .names) (number slot 513)) s (f .findsPlace) ≡ done (f .finds) findsEnd
+  pub fewSlots : f .slotCount ≤ 512
+
+pub front-parts : (s : List ℕ) (f : Front) (n : ℕ) → read frontAt s 0 ≡ done f n → FrontParts s f
+unfolding frontAt read _>>=_
+front-parts s f n e =
+    let a = read-done (number count 4097) (λ m. _>>=_ here (λ q. _>>=_ (many m (number slot 513)) (λ fs. _>>=_ (number count 513) (λ c. give (frontWith m q fs c))))) s 0 f n e in
+    let u = below-is s 0 4097 (a .first) (a .middle) (sym (read-number count 4097 s 0) ∙ a .here) .under in
+    after (a .first) (a .middle) u (a .rest)
+  where
+    make : (m p : ℕ) (fs : List ℕ) (k c : ℕ) → m < 4097 → c < 513 → read (many m (number slot 513)) s p ≡ done fs k → frontWith m p fs c ≡ f → FrontParts s f
+    make m p fs k c u v r e = rw (← e) (record { fewNames = omega arith; findsEnd = k; findsRead = r; fewSlots = omega arith })
+
+    after : (m p : ℕ) → m < 4097 → read (_>>=_ here (λ q. _>>=_ (many m (number slot 513)) (λ fs. _>>=_ (number count 513) (λ c. give (frontWith m q fs c))))) s p ≡ done f n → FrontParts s f
+    after m p u r =
+        let b = read-done (many m (number slot 513)) (λ fs. _>>=_ (number count 513) (λ c. give (frontWith m p fs c))) s p f n r in
+        let d = read-done (number count 513) (λ c. give (frontWith m p (b .first) c)) s (b .middle) f n (b .rest) in
+        let v = below-is s (b .middle) 513 (d .first) (d .middle) (sym (read-number count 513 s (b .middle)) ∙ d .here) .under in
+        make m p (b .first) (b .middle) (d .first) u v (b .here) (given (d .rest) .0)
+
+-- the parts of declarations that were read
+pub declared-parts : (s : List ℕ) (at : ℕ) (d : Declared) (n : ℕ) → read declaredAt s at ≡ done d n → read (many (d .declarations) (number slot (2 ^ 32))) s (d .declaredPlace) ≡ done (d .declared) n
+unfolding declaredAt read _>>=_
+declared-parts s at d n e =
+    let a = read-done (number count 1025) (λ m. _>>=_ here (λ q. _>>=_ (many m (number slot (2 ^ 32))) (λ ds. give (record { declarations = m; declaredPlace = q; declared = ds })))) s at d n e in
+    after (a .first) (a .middle) (a .rest)
+  where
+    after : (m p : ℕ) → read (_>>=_ here (λ q. _>>=_ (many m (number slot (2 ^ 32))) (λ ds. give (record { declarations = m; declaredPlace = q; declared = ds })))) s p ≡ done d n
+        → read (many (d .declarations) (number slot (2 ^ 32))) s (d .declaredPlace) ≡ done (d .declared) n
+    after m p r =
+        let b = read-done (many m (number slot (2 ^ 32))) (λ ds. give (record { declarations = m; declaredPlace = p; declared = ds })) s p d n r in
+        let g = given (b .rest) in
+        rw (← g .0) (b .here ∙ ap (done (b .first)) (g .1))
 
 -- the parts of an image that was accepted
 pub record Accepted (s : List ℕ) (i : Image) (end : ℕ) : Type 0 where

@@ -1,6 +1,6 @@
 -- The image: names, slots and declarations, and nothing after them. Refusals 1 to 6.
 use Prim.Native.Nat.{ℕ, _^_}
-use mathlib.Core.List.{List, [], _∷_}
+use mathlib.Core.List.{List, map}
 use mathlib.Core.Bool.{cond}
 use lib.ListN.{length}
 use lib.Dec.{ltb}
@@ -81,13 +81,11 @@ unfoldable pub imageOf : List ℕ → Outcome Image
 imageOf s = cond (ltb 65536 (length s)) (refused 1 0) (whole s (read imageAt s 0))
 
 -- where the slots start, and what they hold
-unfoldable pub startsOf : List Placed → List ℕ
-startsOf [] = []
-startsOf (x ∷ xs) = x .start ∷ startsOf xs
+abbrev pub startsOf : List Placed → List ℕ
+startsOf xs = map (λ x. x .start) xs
 
-unfoldable pub contentsOf : List Placed → List Slot
-contentsOf [] = []
-contentsOf (x ∷ xs) = x .content ∷ contentsOf xs
+abbrev pub contentsOf : List Placed → List Slot
+contentsOf xs = map (λ x. x .content) xs
 
 -- the schema of an image
 unfoldable pub schemaIn : Image → Schema

@@ -6,7 +6,7 @@ ghost use mathlib.Core.List.{List};
 ghost use Prim.Native.Nat.{ℕ};
 ghost use lib.ListN.{set};
 ghost use lib.Seq.{sets};
-ghost use Rattle.number.specs.Grammar.{many, done, read};
+ghost use Rattle.number.specs.Grammar.{slot, number, many, done, read};
 ghost use Rattle.number.specs.Answers.{next};
 ghost use Rattle.image.specs.Image.{Placed, placedAt, startsOf, Image, frontAt, declaredAt, frontWith, endAt, whole, imageOf, framed, fronted, ended};
 
@@ -137,5 +137,34 @@ pub fn read_image(image: &[u8], starts: &mut [usize]) -> Framed
             Next::Refused(r, q) => Framed::Refused(r, q),
         },
         Fronted::Refused(r, q) => Framed::Refused(r, q),
+    }
+}
+
+// A place past the table's end is left out.
+fn note_find(finds: &mut [u16], i: u64, find: u16)
+    ensures { λ _. ⌜ now (finds .exit) ≡ set (now (finds .entry)) i find ⌝ }
+{
+    if i < finds.len() as u64 {
+        finds[i as usize] = find;
+    }
+}
+
+// What each name of an accepted image finds, written into a table as far as it reaches.
+pub fn read_finds(image: &[u8], at: usize, count: u64, finds: &mut [u16])
+    ensures { λ _. ⌜ ((fs : List ℕ) (n : ℕ) → read (many count (number slot 513)) (now (image .entry)) at ≡ done fs n → now (finds .exit) ≡ sets (now (finds .entry)) 0 fs) ⌝ }
+{
+    let mut p = at;
+    let mut i: u64 = 0;
+    while i < count {
+        match number::read_below(image, p, 513) {
+            Ranged::Value(find, after) => {
+                note_find(finds, i, find as u16);
+                p = after;
+                i += 1;
+            }
+            Ranged::Refused(_, q) => {
+                return;
+            }
+        }
     }
 }

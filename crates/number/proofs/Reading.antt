@@ -56,6 +56,10 @@ pub then-stop : {A B : Type 0} (m : Outcome A) (f : A → ℕ → Outcome B) {r 
 unfolding andThen
 then-stop m f e = rw e
 
+-- what was given, where a reading ends
+pub given : {A : Type 0} {a b : A} {at end : ℕ} → done a at ≡ done b end → (a ≡ b) × (at ≡ end)
+given e = (cc, cc)
+
 -- reading a sequence is reading its first part, and then what follows
 pub read-bind : {A B : Type 0} (g : Grammar A) (f : A → Grammar B) (s : List ℕ) (at : ℕ)
     → read (_>>=_ g f) s at ≡ andThen (read g s at) (λ a n. read (f a) s n)
@@ -93,6 +97,9 @@ read-number role limit s at = itself (below limit s at)
 
 pub number-next : (role : Role) (limit : ℕ) (s : List ℕ) (at : ℕ) (m : Outcome ℕ) → below limit s at ≡ m → next (read (number role limit) s at) ≡ next m
 number-next role limit s at m e = ap next (read-number role limit s at ∙ e)
+
+pub number-value : (role : Role) (limit : ℕ) (s : List ℕ) (at v n : ℕ) → below limit s at ≡ done v n → (x : ℕ) {m : ℕ} → read (number role limit) s at ≡ done x m → x ≡ v
+number-value role limit s at v n e x f = given (sym f ∙ read-number role limit s at ∙ e) .0
 
 -- what follows a number
 module _ {A : Type 0} (role : Role) (limit : ℕ) (k : ℕ → Grammar A) (s : List ℕ) (at : ℕ) where
@@ -219,10 +226,6 @@ pub record Front {A : Type 0} (g : Grammar A) (s : List ℕ) (left at : ℕ) (xs
   pub here : read g s at ≡ done first middle
   pub rest : read (many left g) s middle ≡ done others end
   pub whole : xs ≡ first ∷ others
-
--- what was given, where a reading ends
-pub given : {A : Type 0} {a b : A} {at end : ℕ} → done a at ≡ done b end → (a ≡ b) × (at ≡ end)
-given e = (cc, cc)
 
 pub front : {A : Type 0} (g : Grammar A) (s : List ℕ) (left at : ℕ) (xs : List A) (end : ℕ) → read (many (suc left) g) s at ≡ done xs end → Front g s left at xs end
 unfolding many read

@@ -168,3 +168,16 @@ unfoldable pub slotAt : (names : ℕ) → Grammar Slot
 slotAt names = do
   k ← number kind 10
   slotBodyAt names k
+
+-- a slot's kind in the image
+abbrev pub slotKind : Slot → ℕ
+slotKind empty = 0
+slotKind (message m) = 1
+slotKind (enum e) = 2
+slotKind (flags f) = 3
+slotKind (union u) = 4
+slotKind (newtype n) = 5
+slotKind config = 6
+slotKind (alias a) = 7
+slotKind (trait t) = 8
+slotKind (impl i) = 9

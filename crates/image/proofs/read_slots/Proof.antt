@@ -1,9 +1,11 @@
 use borrow.Author.Needs.{needs}
 use native.Mathlib.Omega.{arith}
-use lib.ListN.{length, length-set}
 use Prim.Native.Nat.{_-_}
 use mathlib.Core.Path.{sym, ap, _∙_}
-use Rattle.image.proofs.Tables.{Turn, first-turn, stop-turn, last-turn, next-turn}
+use lib.ListN.{length, length-set}
+use Rattle.number.proofs.Runs.{Turn, first-turn, stop-turn, last-turn, next-turn}
+use Rattle.image.specs.Image.{placedAt}
+use Rattle.image.proofs.Tables.{placed-next, placed-start}
 use Rattle.image.proofs.read_slots.Statement.{statement}
 use Rattle.image.proofs.read_slots.Tie as tie
 use Rattle.image.proofs.read_slots.Reads as reads
@@ -12,14 +14,14 @@ use Rattle.image.proofs.note.Reads as note-reads
 use Rattle.slot.proofs.read_slot.Reads as read-slot-reads
 
 abbrev Inv-loop : tie.InvT-loop
-Inv-loop image at count names starts₀ p₀ i₀ starts p i = Turn names image count at starts₀ p i starts
+Inv-loop image at count names starts₀ p₀ i₀ starts p i = Turn (placedAt names) (λ x. x .start) image count at starts₀ p i starts
 
 abbrev μ-loop : tie.MeasureT-loop
 μ-loop image at count names starts₀ p₀ i₀ starts p i = count - i
 
 -- src/lib.rt:83:5
 loop-holds : tie.Need-loop-holds Inv-loop μ-loop
-loop-holds c = first-turn _ _ _ _ _
+loop-holds c = first-turn _ _ _ _ _ _
 
 -- src/lib.rt:84:9
 note-requires : tie.Need-note-requires Inv-loop μ-loop
@@ -43,7 +45,7 @@ loop-less c = omega arith
 
 -- src/lib.rt:83:5
 loop-again : tie.Need-loop-again Inv-loop μ-loop
-loop-again c = next-turn _ _ _ _ _ _ _ _ (c .before .before .before .before .before .before .before .before .before .loop .inv) _ _ (c .before .before .before .before .before .before .before .before .loop-test .taken) (c .before .before .before .before .before .before .note .ensures) (sym (c .before .before .before .read-slot .ensures) ∙ c .before .after .given .1)
+loop-again c = next-turn _ _ _ _ _ _ _ _ _ (c .before .before .before .before .before .before .before .before .before .loop .inv) _ _ _ (c .before .before .before .before .before .before .before .before .loop-test .taken) (c .before .before .before .before .before .before .note .ensures) (placed-next _ _ _ ∙ sym (c .before .before .before .read-slot .ensures) ∙ c .before .after .given .1) (placed-start _ _ _ _)
 
 -- src/lib.rt:90:27
 enum-known-r : tie.Need-enum-known-r Inv-loop μ-loop
@@ -55,7 +57,7 @@ same-length c = ap length (c .before .before .before .before .before .before .no
 
 -- src/lib.rt:91:17
 returns : tie.Need-returns Inv-loop μ-loop
-returns c = stop-turn _ _ _ _ _ _ _ _ (c .before .before .before .before .before .before .before .before .before .loop .inv) _ _ _ (c .before .before .before .before .before .before .before .before .loop-test .taken) (sym (c .before .before .before .read-slot .ensures) ∙ c .before .r .given .1)
+returns c = stop-turn _ _ _ _ _ _ _ _ _ (c .before .before .before .before .before .before .before .before .before .loop .inv) _ _ _ (c .before .before .before .before .before .before .before .before .loop-test .taken) (placed-next _ _ _ ∙ sym (c .before .before .before .read-slot .ensures) ∙ c .before .r .given .1)
 
 -- src/lib.rt:77:1
 same-length-2 : tie.Need-same-length-2 Inv-loop μ-loop
@@ -63,7 +65,7 @@ same-length-2 c = c .before .loop .inv .long
 
 -- src/lib.rt:77:1
 returns-2 : tie.Need-returns-2 Inv-loop μ-loop
-returns-2 c = last-turn _ _ _ _ _ _ _ _ (c .before .loop .inv) (c .loop-test .left)
+returns-2 c = last-turn _ _ _ _ _ _ _ _ _ (c .before .loop .inv) (c .loop-test .left)
 
 pub read-slots-spec : {M : Type 1} → statement M
 read-slots-spec =

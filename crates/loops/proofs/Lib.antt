@@ -1,0 +1,3 @@
+mod Marking
+mod Filling
+pub mod Finding

@@ -1,0 +1,4 @@
+pub mod Leads
+pub mod Marks
+pub mod Refusals
+pub mod Chains

@@ -1,0 +1,260 @@
+-- From the parts of an image to the answer, and to what is promised of it. Assumes nothing.
+use Prim.Native.Nat.{ℕ, suc, _+_, _≤_, _<_, _^_}
+use mathlib.Core.Path.{_≡_, refl, sym, ap, ap₂, subst, fun-ext, _∙_}
+use mathlib.Core.List.{List, []}
+use mathlib.Core.Bool.{Bool, true, false}
+use mathlib.Core.Logic.{by-cases}
+use native.Mathlib.Omega.{arith}
+use native.Mathlib.Decide.{decLt}
+use lib.ListN.{length, getD, drop, replicate, length-map, List·getD-eq-default, List·getD-append}
+use lib.Seq.{sets, sets-eq, length-sets}
+use Rattle.number.specs.Grammar.{slot, number, many, Outcome, done, refused, read}
+use Rattle.number.proofs.Reading.{many-length}
+use Rattle.tree.specs.declared.Sort.{Sort}
+use Rattle.tree.specs.declared.Sort.the-variants.{Resolved, Expression}
+use Rattle.slot.specs.Slot.{Slot, empty, slotAt}
+use Rattle.graph.specs.declared.Lowest.{Lowest}
+use Rattle.graph.specs.Loops.{lowest-none}
+use Rattle.image.specs.Schema.{Schema, slotOf}
+use Rattle.image.specs.Image.{Image, imageOf, schemaIn, frameIn, framed, startsOf, contentsOf, placedAt}
+use Rattle.image.specs.declared.Frame.{Frame}
+use Rattle.image.specs.declared.Framed.{Framed}
+use Rattle.image.proofs.Framing.{Accepted, accepted, FrontParts, front-parts, declared-parts}
+use Rattle.image.proofs.Tables.{entry}
+use Rattle.loops.specs.Leads.{loopOf, slotsOf, Located}
+use Rattle.loops.specs.Refusals.{OnLoop, slots-past, not-looped}
+use Rattle.reader.specs.Reading.{isEmpty, lost, lostName, orRefuse, judged, answered, readingOf, schemaOr, schemaOf, startsOr, startsTable}
+use Rattle.reader.specs.Promise.{Seen, Promise, Answered}
+use Rattle.reader.specs.declared.Reading.{Reading}
+use Rattle.reader.proofs.Losing.{slot-at}
+
+-- the answer, by what was found
+module _ (S : Schema) (f : Frame) where
+  abbrev Names : Lowest
+  Names = lostName (S .finds) (slotOf S)
+
+  abbrev Loops : Sort → Lowest
+  Loops sort = loopOf sort (S .finds) (slotOf S) (length (S .slots))
+
+  pub refused-7 : (n : ℕ) → Names ≡ Lowest.At n → Reading.Refused 7 n ≡ judged S f
+  unfolding judged
+  refused-7 n e = rw e
+
+  module _ (e : Names ≡ Lowest.Nowhere) where
+    pub refused-8 : (i : ℕ) → Loops Resolved ≡ Lowest.At i → Reading.Refused 8 i ≡ judged S f
+    unfolding judged
+    refused-8 i g = rw (e, g)
+
+    pub refused-9 : (i : ℕ) → Loops Resolved ≡ Lowest.Nowhere → Loops Expression ≡ Lowest.At i → Reading.Refused 9 i ≡ judged S f
+    unfolding judged
+    refused-9 i g h = rw (e, g, h)
+
+    pub none-refused : Loops Resolved ≡ Lowest.Nowhere → Loops Expression ≡ Lowest.Nowhere → Reading.Accepted f ≡ judged S f
+    unfolding judged
+    none-refused g h = rw (e, g, h)
+
+  -- nothing was found where the answer is acceptance
+  pub record Clear (g : Frame) : Type 0 where
+    pub names : Names ≡ Lowest.Nowhere
+    pub newtypes : Loops Resolved ≡ Lowest.Nowhere
+    pub aliases : Loops Expression ≡ Lowest.Nowhere
+    pub frame : f ≡ g
+
+  pub clear : (g : Frame) → judged S f ≡ Reading.Accepted g → Clear g
+  unfolding judged
+  clear g e = go Names refl (Loops Resolved) refl (Loops Expression) refl e
+    where
+      go : (a : Lowest) → Names ≡ a → (b : Lowest) → Loops Resolved ≡ b → (d : Lowest) → Loops Expression ≡ d
+          → orRefuse 7 a (orRefuse 8 b (orRefuse 9 d (Reading.Accepted f))) ≡ Reading.Accepted g → Clear g
+      go (Lowest.At n) p b q d r h = let z : _≡_ {A = ℕ} 0 1 = cc in absurd (omega arith)
+      go Lowest.Nowhere p (Lowest.At i) q d r h = let z : _≡_ {A = ℕ} 0 1 = cc in absurd (omega arith)
+      go Lowest.Nowhere p Lowest.Nowhere q (Lowest.At i) r h = let z : _≡_ {A = ℕ} 0 1 = cc in absurd (omega arith)
+      go Lowest.Nowhere p Lowest.Nowhere q Lowest.Nowhere r h = record { names = p; newtypes = q; aliases = r; frame = cc }
+
+-- an image that was seen
+module _ (s starts : List ℕ) (f : Frame) (v : Seen s starts f) where
+  parts : Accepted s (v .image) (v .end)
+  parts = accepted s (v .image) (v .end) (v .reads)
+
+  fronts : FrontParts s (v .image .front)
+  fronts = front-parts s (v .image .front) (parts .slotsPlace) (parts .frontRead)
+
+  schema-is : schemaOf s ≡ schemaIn (v .image)
+  unfolding schemaOf
+  schema-is = ap schemaOr (v .reads)
+
+  pub names-are : f .names ≡ v .image .front .names
+  unfolding frameIn
+  names-are = ap (λ (g : Frame). g .names) (v .frame)
+
+  slots-are : f .slots ≡ v .image .front .slotCount
+  unfolding frameIn
+  slots-are = ap (λ (g : Frame). g .slots) (v .frame)
+
+  finds-are : f .finds ≡ v .image .front .findsPlace
+  unfolding frameIn
+  finds-are = ap (λ (g : Frame). g .finds) (v .frame)
+
+  pub few-names : f .names ≤ 4096
+  few-names = omega (arith, names-are, fronts .fewNames)
+
+  slots-read : (i : ℕ) → i < f .slots → (end : ℕ) × (read (slotAt (f .names)) s (getD starts i 0) ≡ done (slotOf (schemaOf s) i) end)
+  unfolding slotOf schemaIn
+  slots-read i h =
+      let k : i < v .image .front .slotCount = omega (arith, slots-are) in
+      let e = entry (v .image .front .names) s (v .image .front .slotCount) (parts .slotsPlace) (v .image .slots) (parts .declarationsPlace) (parts .slotsRead) i empty k in
+      (e .end, ap₂ (λ (n p : ℕ). read (slotAt n) s p) names-are (v .table i k) ∙ e .reads ∙ ap (λ (S : Schema). done (getD (S .slots) i empty) (e .end)) (sym schema-is))
+
+  pub located : Located (f .names) (f .slots) s starts
+  located =
+      record {
+        few = omega (arith, slots-are, fronts .fewSlots);
+        room = omega (arith, slots-are, v .room);
+        reads = λ i h. let e = slots-read i h in (slotOf (schemaOf s) i, e .0, e .1);
+      }
+
+  count-is : f .slots ≡ length (schemaOf s .slots)
+  unfolding schemaIn
+  count-is =
+      slots-are
+      ∙ sym (many-length (placedAt (v .image .front .names)) s (v .image .front .slotCount) (parts .slotsPlace) (v .image .slots) (parts .declarationsPlace) (parts .slotsRead))
+      ∙ sym (length-map (v .image .slots) (λ x. x .content))
+      ∙ ap (λ (S : Schema). length (S .slots)) (sym schema-is)
+
+  slots-same : slotsOf (f .names) (f .slots) s starts ≡ slotOf (schemaOf s)
+  unfolding slotOf
+  slots-same = fun-ext (λ i. by-cases (decLt i (f .slots))
+      (λ h. let e = slots-read i h in slot-at (f .names) (f .slots) s starts located i h _ (e .0) (e .1))
+      (λ h. slots-past (f .names) (f .slots) s starts i (omega arith) ∙ sym (List·getD-eq-default (schemaOf s .slots) empty {n = i} (omega (arith, count-is)))))
+
+  finds-read : read (many (f .names) (number slot 513)) s (f .finds) ≡ done (schemaOf s .finds) (fronts .findsEnd)
+  unfolding schemaIn
+  finds-read =
+      ap₂ (λ (n p : ℕ). read (many n (number slot 513)) s p) names-are finds-are
+      ∙ fronts .findsRead
+      ∙ ap (λ (S : Schema). done (S .finds) (fronts .findsEnd)) (sym schema-is)
+
+  -- what the code's answers say of the schema
+  pub told-names : (r : Lowest) → ((fs : List ℕ) (n : ℕ) → read (many (f .names) (number slot 513)) s (f .finds) ≡ done fs n → r ≡ lostName fs (slotsOf (f .names) (f .slots) s starts))
+      → lostName (schemaOf s .finds) (slotOf (schemaOf s)) ≡ r
+  told-names r h = sym (h (schemaOf s .finds) (fronts .findsEnd) finds-read ∙ ap (lostName (schemaOf s .finds)) slots-same)
+
+  pub told-loop : (sort : Sort) (r : Lowest)
+      → ((fs : List ℕ) (n : ℕ) → read (many (f .names) (number slot 513)) s (f .finds) ≡ done fs n → r ≡ loopOf sort fs (slotsOf (f .names) (f .slots) s starts) (f .slots))
+      → loopOf sort (schemaOf s .finds) (slotOf (schemaOf s)) (length (schemaOf s .slots)) ≡ r
+  told-loop sort r h =
+      sym (h (schemaOf s .finds) (fronts .findsEnd) finds-read ∙ ap₂ (λ (x : ℕ → Slot) (k : ℕ). loopOf sort (schemaOf s .finds) x k) slots-same count-is)
+
+  pub reading-is : judged (schemaOf s) f ≡ readingOf s
+  unfolding readingOf
+  reading-is = ap₂ judged schema-is (v .frame) ∙ sym (ap answered (v .reads))
+
+  pub starts-are : (g : Frame) → startsOr (Reading.Accepted g) (imageOf s) ≡ startsOf (v .image .slots)
+  starts-are g = ap (startsOr (Reading.Accepted g)) (v .reads)
+
+  empty-past : (i : ℕ) → length (schemaOf s .slots) ≤ i → slotOf (schemaOf s) i ≡ empty
+  unfolding slotOf
+  empty-past i h = List·getD-eq-default (schemaOf s .slots) empty {n = i} h
+
+  no-loop : (sort : Sort) → loopOf sort (schemaOf s .finds) (slotOf (schemaOf s)) (length (schemaOf s .slots)) ≡ Lowest.Nowhere
+      → (i : ℕ) → OnLoop sort (schemaOf s .finds) (slotOf (schemaOf s)) i → ⊥
+  no-loop sort e = not-looped sort (schemaOf s .finds) (slotOf (schemaOf s)) (length (schemaOf s .slots)) empty-past e
+
+  all-found : lostName (schemaOf s .finds) (slotOf (schemaOf s)) ≡ Lowest.Nowhere
+      → (n i : ℕ) → getD (schemaOf s .finds) n 0 ≡ suc i → isEmpty (slotOf (schemaOf s) i) ≡ false
+  unfolding lostName lost
+  all-found e n i h = by-cases (decLt n (length (schemaOf s .finds)))
+      (λ l. sym (ap (lost (slotOf (schemaOf s))) h) ∙ lowest-none (λ j. lost (slotOf (schemaOf s)) (getD (schemaOf s .finds) j 0)) (length (schemaOf s .finds)) 0 e n (omega arith) (omega arith))
+      (λ l. absurd (none (sym (List·getD-eq-default (schemaOf s .finds) 0 {n = n} (omega arith)) ∙ h)))
+    where
+      none : 0 ≡ suc i → ⊥
+      none q = omega arith
+
+  pub promised : (g : Frame) → judged (schemaOf s) f ≡ Reading.Accepted g → Promise s starts g
+  unfolding frameIn schemaIn
+  promised g e =
+      let c = clear (schemaOf s) f g e in
+      subst (λ (h : Frame). Promise s starts h) (c .frame)
+      record {
+        small = parts .few;
+        findsEnd = fronts .findsEnd;
+        finds = finds-read;
+        count = count-is;
+        few = located .few;
+        room = located .room;
+        slots = slots-read;
+        declaredEnd = v .end;
+        declared = declared-is;
+        found = all-found (c .names);
+        newtypes = no-loop Resolved (c .newtypes);
+        aliases = no-loop Expression (c .aliases);
+      }
+    where
+      declared-is : read (many (f .declarations) (number slot (2 ^ 32))) s (f .declared) ≡ done (schemaOf s .declared) (v .end)
+      declared-is =
+          ap (λ (h : Frame). read (many (h .declarations) (number slot (2 ^ 32))) s (h .declared)) (v .frame)
+          ∙ declared-parts s (parts .declarationsPlace) (v .image .declared) (v .end) (parts .declaredRead)
+          ∙ ap (λ (S : Schema). done (S .declared) (v .end)) (sym schema-is)
+
+-- the image that was framed
+pub seen : (s l l′ : List ℕ) (f : Frame) → 512 ≤ length l → Framed.Read f ≡ framed (imageOf s)
+    → ((i : Image) (n : ℕ) → imageOf s ≡ done i n → l′ ≡ sets l 0 (startsOf (i .slots))) → Seen s l′ f
+seen s l l′ f h e t = go (imageOf s) refl e
+  where
+    inside : (i : Image) (n : ℕ) → imageOf s ≡ done i n → f ≡ frameIn i → Seen s l′ f
+    inside i n x y =
+        let a = accepted s i n x in
+        let k = front-parts s (i .front) (a .slotsPlace) (a .frontRead) .fewSlots in
+        let c = length-map (i .slots) (λ z. z .start) ∙ many-length (placedAt (i .front .names)) s (i .front .slotCount) (a .slotsPlace) (i .slots) (a .declarationsPlace) (a .slotsRead) in
+        let w : 0 + length (startsOf (i .slots)) ≤ length l = omega arith in
+        record {
+          image = i;
+          end = n;
+          reads = x;
+          frame = y;
+          table = λ j q. ap (λ (m : List ℕ). getD m j 0) (t i n x ∙ sets-eq (startsOf (i .slots)) l 0 w) ∙ List·getD-append (startsOf (i .slots)) (drop (0 + length (startsOf (i .slots))) l) 0 j (omega arith);
+          room = omega (arith, ap length (t i n x) ∙ length-sets l 0 (startsOf (i .slots)));
+        }
+
+    go : (o : Outcome Image) → imageOf s ≡ o → Framed.Read f ≡ framed o → Seen s l′ f
+    go (done i n) x y = inside i n x (cc)
+    go (refused r q) x y = let z : _≡_ {A = ℕ} 0 1 = cc in absurd (omega arith)
+
+pub not-seen : (s : List ℕ) (r q : ℕ) → Framed.Refused r q ≡ framed (imageOf s) → Reading.Refused r q ≡ readingOf s
+unfolding readingOf
+not-seen s r q e = go (imageOf s) e
+  where
+    go : (o : Outcome Image) → Framed.Refused r q ≡ framed o → Reading.Refused r q ≡ answered o
+    go (done i n) y = let z : _≡_ {A = ℕ} 0 1 = cc in absurd (omega arith)
+    go (refused r′ q′) y = let a : r ≡ r′ = cc in let b : q ≡ q′ = cc in rw (a, b)
+
+pub judged-said : (s l l′ : List ℕ) (f : Frame) → 512 ≤ length l → Framed.Read f ≡ framed (imageOf s)
+    → ((i : Image) (n : ℕ) → imageOf s ≡ done i n → l′ ≡ sets l 0 (startsOf (i .slots)))
+    → (r : Reading) → r ≡ judged (schemaOf s) f → Answered s l l′ r
+judged-said s l l′ f h e t r j =
+    let v = seen s l l′ f h e t in
+    record {
+      answer = j ∙ reading-is s l′ f v;
+      table = λ g a. t (v .image) (v .end) (v .reads) ∙ ap (λ (vs : List ℕ). sets l 0 vs) (sym (ap (λ (x : Reading). startsOr x (imageOf s)) a ∙ starts-are s l′ f v g));
+      promise = λ g a. promised s l′ f v g (sym j ∙ a);
+    }
+
+pub refused-said : (s l l′ : List ℕ) (r q : ℕ) → Framed.Refused r q ≡ framed (imageOf s) → Answered s l l′ (Reading.Refused r q)
+refused-said s l l′ r q e = record { answer = not-seen s r q e; table = λ f a. absurd (none a); promise = λ f a. absurd (none a) }
+  where
+    none : {f : Frame} → Reading.Refused r q ≡ Reading.Accepted f → ⊥
+    none a = let z : _≡_ {A = ℕ} 0 1 = cc in omega arith
+
+-- the table of the public entry
+pub accepted-table : (s l′ : List ℕ) (r : Reading) (f : Frame) → Answered s (replicate 512 0) l′ r → r ≡ Reading.Accepted f
+    → (Reading.Accepted f ≡ readingOf s) × (l′ ≡ startsTable s)
+unfolding startsTable
+accepted-table s l′ r f d a =
+    (sym a ∙ d .answer, d .table f a ∙ ap (λ (x : Reading). sets (replicate 512 0) 0 (startsOr x (imageOf s))) (d .answer))
+
+pub refused-table : (s l′ : List ℕ) (r : Reading) (n p : ℕ) → Answered s (replicate 512 0) l′ r → r ≡ Reading.Refused n p
+    → (Reading.Refused n p ≡ readingOf s) × (replicate 512 0 ≡ startsTable s)
+unfolding startsTable
+refused-table s l′ r n p d a =
+    let e = sym a ∙ d .answer in
+    (e, ap (λ (x : Reading). sets (replicate 512 0) 0 (startsOr x (imageOf s))) e)

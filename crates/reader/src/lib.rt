@@ -1,0 +1,129 @@
+// Reading an image: accepted, with where its parts stand, or refused with a number from 1 to 9 and a place.
+use graph::Lowest;
+use image::Frame;
+use image::Framed;
+use number::Ranged;
+use tree::Sort;
+ghost use mathlib.Core.Path.{_≡_};
+ghost use mathlib.Core.List.{List};
+ghost use Prim.Native.Nat.{ℕ, _≤_};
+ghost use lib.ListN.{length};
+ghost use Rattle.number.specs.Grammar.{slot, number, many, done, read};
+ghost use Rattle.loops.specs.Leads.{slotsOf, Located};
+ghost use Rattle.reader.specs.Reading.{lost, lostName, judged, readingOf, schemaOf, startsTable};
+ghost use Rattle.reader.specs.Promise.{Seen, Answered};
+
+pub enum Reading {
+    Accepted(Frame),
+    Refused(u8, usize),
+}
+
+// An answer, with the table of where the slots start.
+pub struct Read {
+    pub answer: Reading,
+    pub starts: [usize; 512],
+}
+
+// Does a name that finds slot + 1 find one that is empty or beyond the slots?
+fn is_lost(image: &[u8], starts: &[usize], count: usize, names: u64, find: u64) -> bool
+    requires { ⌜ Located names count (now image) (now starts) ⌝ }
+    ensures { λ r. ⌜ r ≡ lost (slotsOf names count (now (image .entry)) (now (starts .entry))) find ⌝ }
+{
+    if find == 0 {
+        return false;
+    }
+    let slot = find - 1;
+    if count as u64 <= slot {
+        return true;
+    }
+    match number::read_below(image, starts[slot as usize], 10) {
+        Ranged::Value(kind, after) => kind == 0,
+        Ranged::Refused(_, q) => true,
+    }
+}
+
+// Refusal 7. What the names find stands at `finds`.
+fn lost_name(image: &[u8], starts: &[usize], count: usize, names: u64, finds: usize) -> Lowest
+    requires { ⌜ Located names count (now image) (now starts) ⌝ }
+    ensures { λ r. ⌜ ((fs : List ℕ) (n : ℕ) → read (many names (number slot 513)) (now (image .entry)) finds ≡ done fs n → r ≡ lostName fs (slotsOf names count (now (image .entry)) (now (starts .entry)))) ⌝ }
+{
+    let mut p = finds;
+    let mut n: u64 = 0;
+    while n < names {
+        match number::read_below(image, p, 513) {
+            Ranged::Value(find, after) => {
+                if is_lost(image, starts, count, names, find) {
+                    return Lowest::At(n as usize);
+                }
+                p = after;
+                n += 1;
+            }
+            Ranged::Refused(_, q) => {
+                return Lowest::Nowhere;
+            }
+        }
+    }
+    Lowest::Nowhere
+}
+
+// Refusals 7, 8 and 9, in this order.
+fn judge(image: &[u8], starts: &[usize], frame: Frame) -> Reading
+    requires { ⌜ Seen (now image) (now starts) frame ⌝ }
+    ensures { λ r. ⌜ r ≡ judged (schemaOf (now (image .entry))) frame ⌝ }
+{
+    let names = frame.names;
+    let finds = frame.finds;
+    let count = frame.slots as usize;
+    if let Lowest::At(n) = lost_name(image, starts, count, names, finds) {
+        return Reading::Refused(7, n);
+    }
+    if let Lowest::At(i) = loops::lowest_looped(
+        image,
+        starts,
+        count,
+        names,
+        finds,
+        Sort::Resolved,
+    ) {
+        return Reading::Refused(8, i);
+    }
+    if let Lowest::At(i) = loops::lowest_looped(
+        image,
+        starts,
+        count,
+        names,
+        finds,
+        Sort::Expression,
+    ) {
+        return Reading::Refused(9, i);
+    }
+    Reading::Accepted(frame)
+}
+
+// Reads an image into a table of where its slots start. What a refusal leaves in the table is not said.
+pub fn read_into(image: &[u8], starts: &mut [usize]) -> Reading
+    requires { ⌜ 512 ≤ length (now starts) ⌝ }
+    ensures { λ r. ⌜ Answered (now (image .entry)) (now (starts .entry)) (now (starts .exit)) r ⌝ }
+{
+    match image::read_image(image, starts) {
+        Framed::Read(frame) => judge(image, starts, frame),
+        Framed::Refused(r, q) => Reading::Refused(r, q),
+    }
+}
+
+// Reads an image: the answer, and the table of where the slots start, which is all zero on a refusal.
+pub fn read_schema(image: &[u8]) -> Read
+    ensures { λ r. ⌜ (r .answer ≡ readingOf (now (image .entry))) × (r .starts ≡ startsTable (now (image .entry))) ⌝ }
+{
+    let mut starts = [0usize; 512];
+    match read_into(image, &mut starts) {
+        Reading::Accepted(frame) => Read {
+            answer: Reading::Accepted(frame),
+            starts,
+        },
+        Reading::Refused(r, q) => Read {
+            answer: Reading::Refused(r, q),
+            starts: [0usize; 512],
+        },
+    }
+}

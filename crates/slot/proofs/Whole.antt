@@ -1,0 +1,75 @@
+-- A slot that was read whole: its kind, and what the kind holds. Assumes nothing.
+use Prim.Native.Nat.{ℕ, _≤_, _<_}
+use mathlib.Core.Path.{_≡_, refl, sym, ap, subst, _∙_}
+use mathlib.Core.List.{List}
+use native.Mathlib.Omega.{arith}
+use Rattle.number.specs.Grammar.{kind, Grammar, give, _>>=_, number, done, below, read}
+use Rattle.number.proofs.Reading.{read-done, read-number, given}
+use Rattle.number.proofs.InRange.{below-is}
+use Rattle.tree.proofs.Ranges.{each}
+use Rattle.slot.specs.Slot.{Slot, empty, message, enum, flags, union, newtype, config, alias, trait, impl, slotKind, messageAt, enumAt, flagsAt, unionAt, newtypeAt, aliasAt, traitAt, implAt, made, slotBodyAt, slotAt}
+
+-- what a slot of one kind holds
+pub record Made {A : Type 0} (f : A → Slot) (g : Grammar A) (s : List ℕ) (at : ℕ) (x : Slot) (end : ℕ) : Type 0 where
+  pub held : A
+  pub slotIs : x ≡ f held
+  pub reads : read g s at ≡ done held end
+
+module _ (s : List ℕ) where
+  pub made-of : {A : Type 0} (f : A → Slot) (g : Grammar A) (at : ℕ) (x : Slot) (end : ℕ) → read (made f g) s at ≡ done x end → Made f g s at x end
+  unfolding read
+  made-of f g at x end e =
+      let a = read-done g (λ y. give (f y)) s at x end e in
+      let h = given (a .rest) in
+      record { held = a .first; slotIs = sym (h .0); reads = a .here ∙ ap (done (a .first)) (h .1) }
+
+  kind-of : {A : Type 0} (f : A → Slot) (g : Grammar A) (k : ℕ) → ((a : A) → slotKind (f a) ≡ k) → (at : ℕ) (x : Slot) (end : ℕ) → read (made f g) s at ≡ done x end → slotKind x ≡ k
+  kind-of f g k h at x end e = let m = made-of f g at x end e in ap slotKind (m .slotIs) ∙ h (m .held)
+
+  body-kind : (names at : ℕ) (x : Slot) (end k : ℕ) → k < 10 → read (slotBodyAt names k) s at ≡ done x end → slotKind x ≡ k
+  unfolding slotBodyAt read
+  body-kind names at x end k h =
+      each (λ j. read (slotBodyAt names j) s at ≡ done x end → slotKind x ≡ j) 0 10 (
+        (λ e. ap slotKind (sym (given e .0))),
+        (
+          kind-of message (messageAt names) 1 (λ a. refl) at x end,
+          (
+            kind-of enum enumAt 2 (λ a. refl) at x end,
+            (
+              kind-of flags flagsAt 3 (λ a. refl) at x end,
+              (
+                kind-of union (unionAt names) 4 (λ a. refl) at x end,
+                (
+                  kind-of newtype (newtypeAt names) 5 (λ a. refl) at x end,
+                  (
+                    (λ e. ap slotKind (sym (given e .0))),
+                    (
+                      kind-of alias (aliasAt names) 7 (λ a. refl) at x end,
+                      (kind-of trait (traitAt names) 8 (λ a. refl) at x end, (kind-of impl (implAt names) 9 (λ a. refl) at x end, tt)),
+                    ),
+                  ),
+                ),
+              ),
+            ),
+          ),
+        ),
+      )
+      k (omega arith) (omega arith)
+
+  -- a slot stands behind its kind
+  pub record SlotParts (names at : ℕ) (x : Slot) (end : ℕ) : Type 0 where
+    pub body : ℕ
+    pub kindRead : below 10 s at ≡ done (slotKind x) body
+    pub bodyRead : read (slotBodyAt names (slotKind x)) s body ≡ done x end
+
+  pub slot-parts : (names at : ℕ) (x : Slot) (end : ℕ) → read (slotAt names) s at ≡ done x end → SlotParts names at x end
+  unfolding slotAt
+  slot-parts names at x end e =
+      let a = read-done (number kind 10) (slotBodyAt names) s at x end e in
+      let b = sym (read-number kind 10 s at) ∙ a .here in
+      let q = body-kind names (a .middle) x end (a .first) (below-is s at 10 (a .first) (a .middle) b .under) (a .rest) in
+      record {
+        body = a .middle;
+        kindRead = b ∙ ap (λ (k : ℕ). done k (a .middle)) (sym q);
+        bodyRead = subst (λ (k : ℕ). read (slotBodyAt names k) s (a .middle) ≡ done x end) (sym q) (a .rest);
+      }
