@@ -1,10 +1,9 @@
 // What C and Rust programs link.
 use reader::Reading;
 ghost use mathlib.Core.Path.{_≡_};
-ghost use lib.ListN.{length, replicate};
-ghost use lib.Seq.{sets};
+ghost use lib.ListN.{length, getD};
 ghost use Rattle.reader.specs.Reading.{readingOf};
-ghost use Rattle.vexil.specs.Answer.{numberOf, valueOf, startsIn};
+ghost use Rattle.vexil.specs.Answer.{numberOf, valueOf, fitted, startsIn};
 
 // `number` is 0 for an accepted image, and `value` then counts its slots; else they are a refusal's number and place.
 #[repr(C)]
@@ -13,15 +12,33 @@ pub struct Answer {
     pub value: u64,
 }
 
-// Reads an image. The table gets where each slot starts, as far as it reaches, and zeros.
+fn place_of(table: &[usize], i: usize) -> usize
+    ensures { λ r. ⌜ r ≡ getD (now (table .entry)) i 0 ⌝ }
+{
+    if i < table.len() { table[i] } else { 0 }
+}
+
+// Writes a table into one of another length.
+fn fit(table: &[usize], into: &mut [usize])
+    ensures { λ _. ⌜ now (into .exit) ≡ fitted (length (now (into .entry))) (now (table .entry)) ⌝ }
+{
+    let mut i: usize = 0;
+    while i < into.len() {
+        into[i] = place_of(table, i);
+        i += 1;
+    }
+}
+
+// Reads an image. The table gets where each slot starts, as far as it reaches, and zeros after.
 #[no_mangle]
 pub extern "C" fn vexil_read(image: &[u8], starts: &mut [usize]) -> Answer
     ensures { λ r. ⌜ (r .number ≡ numberOf (readingOf (now (image .entry)))) × (r .value ≡ valueOf (readingOf (now (image .entry)))) × (now (starts .exit) ≡ startsIn (length (now (starts .entry))) (now (image .entry))) ⌝ }
 {
     let read = reader::read_schema(image);
     let table = read.starts;
-    copy(&table, starts);
-    match read.answer {
+    fit(&table, starts);
+    let answer = read.answer;
+    match answer {
         Reading::Accepted(frame) => Answer {
             number: 0,
             value: frame.slots,

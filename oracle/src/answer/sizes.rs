@@ -1,0 +1,311 @@
+//! Sizes by the rules of document 01, in 128 bits, to see what passes
+//! 2^63 - 1. Written apart from the upstream check, which adds in 64 bits.
+
+use super::steps::{Steps, TooLong};
+use super::widths::{enum_bits, flags_bytes, primitive_bits};
+use crate::ast::{PrimitiveType, SemanticType};
+use crate::format::SIZE_LIMIT;
+use crate::ir::{CompiledSchema, Encoding, FieldDef, ResolvedType, TypeDef, TypeId, WireSize};
+
+/// Why no size table came about.
+pub enum Stop {
+    /// A value passed the limit at the turn of this declared slot.
+    Limit {
+        slot: u64,
+    },
+    TooLong,
+}
+
+/// Why the size of a part could not be worked out.
+enum Halt {
+    Limit,
+    TooLong,
+}
+
+impl From<TooLong> for Halt {
+    fn from(_: TooLong) -> Self {
+        Halt::TooLong
+    }
+}
+
+type Worked<T> = Result<T, Halt>;
+
+/// Smallest and largest bits; `fixed` where the compiler says Fixed.
+#[derive(Clone, Copy)]
+struct Size {
+    fixed: bool,
+    least: u128,
+    most: Option<u128>,
+}
+
+const ANY: Size = Size {
+    fixed: false,
+    least: 0,
+    most: None,
+};
+
+fn fixed(bits: u128) -> Size {
+    Size {
+        fixed: true,
+        least: bits,
+        most: Some(bits),
+    }
+}
+
+fn between(least: u128, most: Option<u128>) -> Size {
+    Size {
+        fixed: false,
+        least,
+        most,
+    }
+}
+
+fn within(bits: u128) -> Worked<u128> {
+    if bits > u128::from(SIZE_LIMIT) {
+        return Err(Halt::Limit);
+    }
+    Ok(bits)
+}
+
+/// Three numbers a slot, as they stand after the check.
+pub fn size_table(schema: &CompiledSchema, steps: &mut Steps) -> Result<Vec<u64>, Stop> {
+    let mut sizes = Sizes::new(schema, steps);
+    for &id in &schema.declarations {
+        let worked = match schema.registry.get(id) {
+            Some(TypeDef::Message(_) | TypeDef::Union(_)) => sizes.work(id),
+            _ => continue,
+        };
+        let slot = u64::from(id.index());
+        match worked {
+            Ok(size) => sizes.stored[id.index() as usize] = Some(size),
+            Err(Halt::Limit) => return Err(Stop::Limit { slot }),
+            Err(Halt::TooLong) => return Err(Stop::TooLong),
+        }
+    }
+    Ok(sizes.table())
+}
+
+struct Sizes<'a> {
+    schema: &'a CompiledSchema,
+    /// Per slot: size of a message or union, if any so far.
+    stored: Vec<Option<Size>>,
+    /// Per slot: bits of an enum, bytes of flags.
+    widths: Vec<u64>,
+    working: Vec<bool>,
+    steps: &'a mut Steps,
+}
+
+impl<'a> Sizes<'a> {
+    fn new(schema: &'a CompiledSchema, steps: &'a mut Steps) -> Self {
+        let slots = schema.registry.len();
+        let mut declared = vec![false; slots];
+        for id in &schema.declarations {
+            if let Some(mark) = declared.get_mut(id.index() as usize) {
+                *mark = true;
+            }
+        }
+        let definition = |slot: usize| schema.registry.get(TypeId(slot as u32));
+        let widths = (0..slots).map(|slot| match definition(slot) {
+            Some(TypeDef::Enum(en)) if declared[slot] => enum_bits(en),
+            Some(TypeDef::Enum(en)) => en.wire_bits.into(),
+            Some(TypeDef::Flags(flags)) if declared[slot] => flags_bytes(flags),
+            Some(TypeDef::Flags(flags)) => flags.wire_bytes.into(),
+            _ => 0,
+        });
+        let stored = (0..slots).map(|slot| match definition(slot) {
+            Some(TypeDef::Message(message)) => message.wire_size.as_ref().map(brought),
+            Some(TypeDef::Union(un)) => un.wire_size.as_ref().map(brought),
+            _ => None,
+        });
+        Self {
+            schema,
+            stored: stored.collect(),
+            widths: widths.collect(),
+            working: vec![false; slots],
+            steps,
+        }
+    }
+
+    fn table(&self) -> Vec<u64> {
+        let mut table = Vec::new();
+        for (slot, stored) in self.stored.iter().enumerate() {
+            let row = match self.schema.registry.get(TypeId(slot as u32)) {
+                Some(TypeDef::Enum(_)) => [4, self.widths[slot], 0],
+                Some(TypeDef::Flags(_)) => [5, self.widths[slot], 0],
+                _ => stored.map_or([0, 0, 0], row),
+            };
+            table.extend(row);
+        }
+        table
+    }
+
+    /// A message or union by its fields, whatever is stored.
+    fn work(&mut self, id: TypeId) -> Worked<Size> {
+        self.steps.charge_slot(id)?;
+        let slot = id.index() as usize;
+        self.working[slot] = true;
+        let size = match self.schema.registry.get(id) {
+            Some(TypeDef::Message(message)) => self.sum(&message.fields),
+            Some(TypeDef::Union(un)) => {
+                self.extremes(un.variants.iter().map(|variant| &variant.fields[..]))
+            }
+            _ => Ok(ANY),
+        };
+        self.working[slot] = false;
+        size
+    }
+
+    fn sum(&mut self, fields: &[FieldDef]) -> Worked<Size> {
+        let mut total = fixed(0);
+        for field in fields {
+            let size = self.field(field)?;
+            total.least = within(total.least + size.least)?;
+            total.most = match (total.most, size.most) {
+                (Some(total), Some(most)) => Some(within(total + most)?),
+                _ => None,
+            };
+            total.fixed &= size.fixed;
+        }
+        Ok(total)
+    }
+
+    fn extremes<'f>(&mut self, variants: impl Iterator<Item = &'f [FieldDef]>) -> Worked<Size> {
+        let mut least = None;
+        let mut most = Some(0);
+        for fields in variants {
+            let sum = self.sum(fields)?;
+            least = Some(least.map_or(sum.least, |least: u128| least.min(sum.least)));
+            most = most.zip(sum.most).map(|(one, other)| one.max(other));
+        }
+        let least = within(8 + least.unwrap_or(0))?;
+        Ok(between(least, raised(most, 8)?))
+    }
+
+    fn field(&mut self, field: &FieldDef) -> Worked<Size> {
+        let mut encoding = &field.encoding.encoding;
+        while let Encoding::Delta(inner) = encoding {
+            encoding = inner;
+        }
+        match encoding {
+            Encoding::Varint => Ok(groups(&field.resolved_type, 0)),
+            Encoding::ZigZag => Ok(groups(&field.resolved_type, 1)),
+            _ => self.of_type(&field.resolved_type),
+        }
+    }
+
+    fn of_type(&mut self, ty: &ResolvedType) -> Worked<Size> {
+        Ok(match ty {
+            ResolvedType::Primitive(primitive) => fixed(primitive_bits(*primitive)),
+            ResolvedType::SubByte(sub) => fixed(sub.bits.into()),
+            ResolvedType::Semantic(semantic) => semantic_size(*semantic),
+            ResolvedType::BitsInline(names) => fixed(names.len() as u128),
+            ResolvedType::Named(id) => self.of_name(*id)?,
+            ResolvedType::Optional(part) => {
+                let size = self.of_type(part)?;
+                between(1, raised(size.most, 1)?)
+            }
+            ResolvedType::Array(_) | ResolvedType::Set(_) | ResolvedType::Map(_, _) => {
+                between(8, None)
+            }
+            ResolvedType::FixedArray(part, size) => {
+                let element = self.of_type(part)?;
+                let least = within(element.least * u128::from(*size))?;
+                if element.fixed {
+                    fixed(least)
+                } else {
+                    between(least, None)
+                }
+            }
+            ResolvedType::Result(ok, err) => {
+                let (ok, err) = (self.of_type(ok)?, self.of_type(err)?);
+                let most = ok.most.zip(err.most).map(|(ok, err)| ok.max(err));
+                between(within(1 + ok.least.min(err.least))?, raised(most, 1)?)
+            }
+            ResolvedType::Vec2(part) => self.times(part, 2)?,
+            ResolvedType::Vec3(part) => self.times(part, 3)?,
+            ResolvedType::Vec4(part) | ResolvedType::Quat(part) => self.times(part, 4)?,
+            ResolvedType::Mat3(part) => self.times(part, 9)?,
+            ResolvedType::Mat4(part) => self.times(part, 16)?,
+        })
+    }
+
+    fn times(&mut self, part: &ResolvedType, factor: u128) -> Worked<Size> {
+        let size = self.of_type(part)?;
+        let most = match size.most {
+            Some(most) => Some(within(most * factor)?),
+            None => None,
+        };
+        Ok(Size {
+            fixed: size.fixed,
+            least: within(size.least * factor)?,
+            most,
+        })
+    }
+
+    fn of_name(&mut self, id: TypeId) -> Worked<Size> {
+        let slot = id.index() as usize;
+        let Some(definition) = self.schema.registry.get(id) else {
+            return Ok(ANY);
+        };
+        if self.working[slot] {
+            return Ok(ANY);
+        }
+        match definition {
+            TypeDef::Enum(_) => Ok(fixed(self.widths[slot].into())),
+            TypeDef::Flags(_) => Ok(fixed(8 * u128::from(self.widths[slot]))),
+            TypeDef::Newtype(newtype) => {
+                self.steps.charge_slot(id)?;
+                self.of_type(&newtype.terminal_type)
+            }
+            TypeDef::Message(_) | TypeDef::Union(_) => match self.stored[slot] {
+                Some(size) => Ok(size),
+                None => self.work(id),
+            },
+            _ => Ok(ANY),
+        }
+    }
+}
+
+fn raised(most: Option<u128>, by: u128) -> Worked<Option<u128>> {
+    most.map(|most| within(most + by)).transpose()
+}
+
+fn row(size: Size) -> [u64; 3] {
+    let least = size.least as u64;
+    match size.most {
+        Some(_) if size.fixed => [1, least, least],
+        Some(most) => [2, least, most as u64],
+        None => [3, least, 0],
+    }
+}
+
+fn brought(size: &WireSize) -> Size {
+    match *size {
+        WireSize::Fixed(bits) => fixed(bits.into()),
+        WireSize::Variable { min_bits, max_bits } => {
+            between(min_bits.into(), max_bits.map(u128::from))
+        }
+    }
+}
+
+fn semantic_size(semantic: SemanticType) -> Size {
+    match semantic {
+        SemanticType::String | SemanticType::Bytes => ANY,
+        SemanticType::Rgb => fixed(24),
+        SemanticType::Uuid => fixed(128),
+        SemanticType::Timestamp => fixed(64),
+        SemanticType::Hash => fixed(256),
+    }
+}
+
+/// Varint (0) and ZigZag (1): bytes of seven bits each, to ten.
+fn groups(ty: &ResolvedType, signed: usize) -> Size {
+    let short = [PrimitiveType::U16, PrimitiveType::I16][signed];
+    let middle = [PrimitiveType::U32, PrimitiveType::I32][signed];
+    let most = match ty {
+        ResolvedType::Primitive(primitive) if *primitive == short => 24,
+        ResolvedType::Primitive(primitive) if *primitive == middle => 40,
+        _ => 80,
+    };
+    between(8, Some(most))
+}

@@ -1,0 +1,116 @@
+//! Families of images for comparison, each made from a seed.
+
+pub mod bounds;
+mod damage;
+pub mod full;
+mod limits;
+pub mod loops;
+mod nesting;
+pub mod schemas;
+mod traits;
+mod trees;
+
+use crate::model::Schema;
+use crate::random::Random;
+use schemas::{schema, Style};
+
+/// What takes the images of a family.
+pub type Emit<'a> = &'a mut dyn FnMut(&[u8]);
+
+/// A family of images; one call may give several.
+pub struct Family {
+    pub name: &'static str,
+    /// How often it is called, as against the others.
+    weight: u64,
+    make: fn(&mut Random, Emit<'_>),
+}
+
+const fn family(name: &'static str, weight: u64, make: fn(&mut Random, Emit<'_>)) -> Family {
+    Family { name, weight, make }
+}
+
+/// All families. Those that give many or long images are called less often.
+pub static FAMILIES: &[Family] = &[
+    family("valid", 2_000, |random, emit| {
+        let style = Style {
+            valid: true,
+            stored: false,
+        };
+        one(schema(random, style), emit);
+    }),
+    family("stored", 1_000, |random, emit| {
+        let style = Style {
+            valid: true,
+            stored: true,
+        };
+        one(schema(random, style), emit);
+    }),
+    family("loose", 2_000, |random, emit| {
+        let style = Style {
+            valid: false,
+            stored: true,
+        };
+        one(schema(random, style), emit);
+    }),
+    family("traits", 2_000, |random, emit| {
+        one(traits::conformance(random), emit)
+    }),
+    family("limits", 1_500, |random, emit| {
+        one(limits::near_limit(random), emit)
+    }),
+    family("newtype-loops", 1_000, |random, emit| {
+        one(loops::newtypes(random), emit)
+    }),
+    family("alias-loops", 1_000, |random, emit| {
+        one(loops::aliases(random), emit)
+    }),
+    family("message-loops", 1_000, |random, emit| {
+        one(loops::messages(random), emit)
+    }),
+    family("doubling", 200, |random, emit| {
+        one(loops::doubling(random), emit)
+    }),
+    family("chain", 20, |random, emit| one(loops::chain(random), emit)),
+    family("bounds", 500, |random, emit| {
+        let all = bounds::boundaries();
+        emit(&all[random.below(all.len() as u64) as usize].image);
+    }),
+    family("truncated", 20, damage::truncated),
+    family("single-bytes", 20, damage::single_bytes),
+    family("spliced", 1_000, damage::spliced),
+    family("crossed", 500, damage::crossed),
+    family("malformed", 100, damage::malformed),
+    family("out-of-range", 150, damage::out_of_range),
+    family("trailing", 300, damage::trailing),
+    family("random-bytes", 1_500, damage::random_bytes),
+    family("full", 4, full::full),
+];
+
+fn one(schema: Schema, emit: Emit<'_>) {
+    emit(&schema.bytes());
+}
+
+/// The family of this name.
+pub fn family_named(name: &str) -> Option<usize> {
+    FAMILIES.iter().position(|family| family.name == name)
+}
+
+/// The images of one batch. A batch is told by its seed and number alone;
+/// its family is `only`, or drawn by weight.
+pub fn batch(seed: u64, number: u64, only: Option<usize>, mut emit: impl FnMut(usize, &[u8])) {
+    let mut random = Random::new(seed, number);
+    let family = only.unwrap_or_else(|| drawn(&mut random));
+    (FAMILIES[family].make)(&mut random, &mut |image| emit(family, image));
+}
+
+fn drawn(random: &mut Random) -> usize {
+    let total = FAMILIES.iter().map(|family| family.weight).sum();
+    let mut left = random.below(total);
+    for (index, family) in FAMILIES.iter().enumerate() {
+        if left < family.weight {
+            return index;
+        }
+        left -= family.weight;
+    }
+    unreachable!("the weights add up to the total")
+}

@@ -1,0 +1,69 @@
+//! Whole answers over generated images, without the ported library: shows
+//! which refusals the families reach, and holds the sizes worked out here
+//! against the upstream ones.
+
+use std::ops::ControlFlow;
+use std::panic::{catch_unwind, AssertUnwindSafe};
+
+use crate::answer::{answer, Answer, Places, PROGRAM_PLACES};
+use crate::compare::{each_image, Selection};
+use crate::random::Random;
+use crate::tally::{Tally, TOO_LONG};
+use crate::workers::in_parallel;
+
+/// Counts of answers and of findings by class, and an image whose check failed.
+#[derive(Debug, Default)]
+pub struct Survey {
+    pub tally: Tally,
+    pub classes: [u64; 5],
+    pub failed: Option<Vec<u8>>,
+}
+
+pub fn survey(selection: Selection) -> Survey {
+    let parts = in_parallel(|worker| part(selection, worker));
+    let mut all = Survey::default();
+    for part in parts {
+        all.tally.add(&part.tally);
+        all.failed = all.failed.or(part.failed);
+        for (count, more) in all.classes.iter_mut().zip(part.classes) {
+            *count += more;
+        }
+    }
+    all
+}
+
+fn part(selection: Selection, worker: u64) -> Survey {
+    let mut survey = Survey::default();
+    let mut random = Random::new(!selection.seed, worker);
+    each_image(selection, worker, |family, image| {
+        let places = places(&mut random);
+        let Ok(result) = catch_unwind(AssertUnwindSafe(|| answer(image, places))) else {
+            survey.failed = Some(image.to_vec());
+            return ControlFlow::Break(());
+        };
+        let column = match &result {
+            Ok(Answer::Refused { number, .. }) => *number as usize,
+            Ok(Answer::Accepted { findings, .. }) => {
+                let classes = findings.iter().step_by(6);
+                classes.for_each(|&class| survey.classes[class as usize] += 1);
+                0
+            }
+            Err(_) => TOO_LONG,
+        };
+        survey.tally.count(family, column);
+        ControlFlow::Continue(())
+    });
+    survey
+}
+
+/// Mostly those of the program, at times few.
+fn places(random: &mut Random) -> Places {
+    let mut places = PROGRAM_PLACES;
+    if random.once_in(8) {
+        places.sizes = random.below(40);
+    }
+    if random.once_in(8) {
+        places.findings = random.below(40);
+    }
+    places
+}

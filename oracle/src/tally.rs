@@ -1,0 +1,79 @@
+//! Counts of answers by family and number.
+
+use std::fmt;
+
+use crate::generate::FAMILIES;
+
+/// Columns: accepted, refusals 1 to 12, and checks that would take too long.
+pub const TOO_LONG: usize = 13;
+const COLUMNS: usize = TOO_LONG + 1;
+
+#[derive(Debug, Clone)]
+pub struct Tally {
+    rows: Vec<[u64; COLUMNS]>,
+}
+
+impl Default for Tally {
+    fn default() -> Self {
+        Self {
+            rows: vec![[0; COLUMNS]; FAMILIES.len()],
+        }
+    }
+}
+
+impl Tally {
+    pub fn count(&mut self, family: usize, column: usize) {
+        self.rows[family][column] += 1;
+    }
+
+    pub fn add(&mut self, other: &Tally) {
+        for (row, more) in self.rows.iter_mut().zip(&other.rows) {
+            add_row(row, more);
+        }
+    }
+
+    /// How often each number was answered, over all families.
+    pub fn totals(&self) -> [u64; COLUMNS] {
+        let mut totals = [0; COLUMNS];
+        self.rows.iter().for_each(|row| add_row(&mut totals, row));
+        totals
+    }
+
+    pub fn images(&self) -> u64 {
+        self.totals().iter().sum()
+    }
+}
+
+fn add_row(row: &mut [u64; COLUMNS], more: &[u64; COLUMNS]) {
+    for (count, more) in row.iter_mut().zip(more) {
+        *count += more;
+    }
+}
+
+impl fmt::Display for Tally {
+    fn fmt(&self, out: &mut fmt::Formatter<'_>) -> fmt::Result {
+        let totals = self.totals();
+        let used: Vec<usize> = (0..COLUMNS).filter(|&column| totals[column] > 0).collect();
+        write!(out, "{:15}{:>9}", "family", "images")?;
+        for &column in &used {
+            match column {
+                0 => write!(out, "{:>9}", "accepted")?,
+                TOO_LONG => write!(out, "{:>9}", "too long")?,
+                number => write!(out, "{number:>9}")?,
+            }
+        }
+        writeln!(out)?;
+        let named = FAMILIES.iter().map(|family| family.name).zip(&self.rows);
+        for (name, row) in named.chain([("all", &totals)]) {
+            let images: u64 = row.iter().sum();
+            if images > 0 {
+                write!(out, "{name:15}{images:>9}")?;
+                for &column in &used {
+                    write!(out, "{:>9}", row[column])?;
+                }
+                writeln!(out)?;
+            }
+        }
+        Ok(())
+    }
+}
