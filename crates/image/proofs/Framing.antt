@@ -10,7 +10,7 @@ use lib.ListN.{length}
 use lib.Dec.{ltb}
 use lib.Seq.{sets}
 use borrow.Author.Tests.{lt-ltb, le-ltb, ltb-false}
-use Rattle.number.specs.Grammar.{slot, count, Grammar, give, _>>=_, number, here, many, Outcome, done, refused, andThen, below, read}
+use Rattle.number.specs.Grammar.{slot, count, give, _>>=_, number, here, many, Outcome, done, refused, andThen, below, read}
 use Rattle.number.specs.Answers.{next}
 use Rattle.number.specs.declared.Next.{Next}
 use Rattle.number.proofs.Reading.{read-bind, read-number, read-done, then-on, then-stop, then-done, number-on, number-refused, next-at, next-refused, given}

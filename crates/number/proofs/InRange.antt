@@ -1,7 +1,7 @@
 -- `below` by what the number's reading gave, and what is known of a number below a limit.
 -- Assumes nothing.
 use Prim.Native.Nat.{ℕ, _≤_, _<_}
-use mathlib.Core.Path.{_≡_, refl, sym}
+use mathlib.Core.Path.{_≡_, refl}
 use mathlib.Core.List.{List}
 use mathlib.Core.Bool.{Bool, true, false, cond}
 use native.Mathlib.Omega.{arith}
@@ -9,7 +9,7 @@ use lib.ListN.{length}
 use lib.Dec.{ltb}
 use borrow.Author.Tests.{lt-ltb, le-ltb, ltb-true}
 use Rattle.number.specs.Number.{numberAt}
-use Rattle.number.specs.Grammar.{Outcome, done, refused, below, ranged}
+use Rattle.number.specs.Grammar.{done, refused, below, ranged}
 use Rattle.number.specs.declared.Number.{Number}
 use Rattle.number.proofs.Laws.{bounds}
 

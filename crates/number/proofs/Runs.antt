@@ -1,15 +1,15 @@
 -- A run of readings that writes a number of each thing into a table. Assumes nothing.
-use Prim.Native.Nat.{ℕ, zero, suc, _+_, _-_, _≤_, _<_}
+use Prim.Native.Nat.{ℕ, suc, _+_, _-_, _≤_, _<_}
 use mathlib.Core.Path.{_≡_, refl, sym, ap, ap₂, subst, _∙_}
 use mathlib.Core.List.{List, [], _∷_, map}
 use native.Mathlib.Omega.{arith}
 use native.Mathlib.Numerals.{add-one}
 use lib.ListN.{length, set, length-set}
 use lib.Seq.{sets}
-use Rattle.number.specs.Grammar.{Grammar, many, Outcome, done, refused, read}
+use Rattle.number.specs.Grammar.{Grammar, many, done, read}
 use Rattle.number.specs.Answers.{next}
 use Rattle.number.specs.declared.Next.{Next}
-use Rattle.number.proofs.Reading.{next-at, given, many-none, many-on, many-stop, front}
+use Rattle.number.proofs.Reading.{given, many-none, many-on, many-stop, front}
 
 -- what a run of `count` things says of where it ends, and of a table that had l₀
 abbrev pub Said : {A : Type 0} → Grammar A → (put : A → ℕ) → (s : List ℕ) → (count at : ℕ) → (l₀ : List ℕ) → (end : Next) → (table : List ℕ) → Type 0

@@ -1,8 +1,8 @@
 -- From the parts of an image to the answer, and to what is promised of it. Assumes nothing.
 use Prim.Native.Nat.{ℕ, suc, _+_, _≤_, _<_, _^_}
 use mathlib.Core.Path.{_≡_, refl, sym, ap, ap₂, subst, fun-ext, _∙_}
-use mathlib.Core.List.{List, []}
-use mathlib.Core.Bool.{Bool, true, false}
+use mathlib.Core.List.{List}
+use mathlib.Core.Bool.{false}
 use mathlib.Core.Logic.{by-cases}
 use native.Mathlib.Omega.{arith}
 use native.Mathlib.Decide.{decLt}
@@ -16,7 +16,7 @@ use Rattle.slot.specs.Slot.{Slot, empty, slotAt}
 use Rattle.graph.specs.declared.Lowest.{Lowest}
 use Rattle.graph.specs.Loops.{lowest-none}
 use Rattle.image.specs.Schema.{Schema, slotOf}
-use Rattle.image.specs.Image.{Image, imageOf, schemaIn, frameIn, framed, startsOf, contentsOf, placedAt}
+use Rattle.image.specs.Image.{Image, imageOf, schemaIn, frameIn, framed, startsOf, placedAt}
 use Rattle.image.specs.declared.Frame.{Frame}
 use Rattle.image.specs.declared.Framed.{Framed}
 use Rattle.image.proofs.Framing.{Accepted, accepted, FrontParts, front-parts, declared-parts}

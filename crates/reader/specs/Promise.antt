@@ -8,7 +8,7 @@ use lib.Seq.{sets}
 use Rattle.number.specs.Grammar.{slot, number, many, done, read}
 use Rattle.tree.specs.declared.Sort.the-variants.{Resolved, Expression}
 use Rattle.slot.specs.Slot.{slotAt}
-use Rattle.image.specs.Schema.{Schema, slotOf}
+use Rattle.image.specs.Schema.{slotOf}
 use Rattle.image.specs.Image.{Image, imageOf, frameIn, startsOf}
 use Rattle.image.specs.declared.Frame.{Frame}
 use Rattle.loops.specs.Refusals.{OnLoop}

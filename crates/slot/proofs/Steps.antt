@@ -1,18 +1,18 @@
 -- Slots by the code's steps: what follows a kind. Assumes nothing.
-use Prim.Native.Nat.{ℕ, _^_, _≤_, _<_}
-use mathlib.Core.Path.{_≡_, refl, sym, ap, _∙_}
-use mathlib.Core.List.{List, [], _∷_}
-use mathlib.Core.Option.{Option, none, some}
+use Prim.Native.Nat.{ℕ, _^_, _≤_}
+use mathlib.Core.Path.{_≡_, sym, ap, _∙_}
+use mathlib.Core.List.{List}
+use mathlib.Core.Option.{some}
 use native.Mathlib.Omega.{arith}
 use lib.ListN.{length, getD, List·getD-eq-default}
-use Rattle.number.specs.Grammar.{kind, value, Grammar, give, _>>=_, number, counted, many, Outcome, done, refused, below, read}
+use Rattle.number.specs.Grammar.{kind, value, Grammar, give, _>>=_, number, done, refused, below, read}
 use Rattle.number.specs.Answers.{next, follow}
 use Rattle.number.specs.declared.Next.{Next}
-use Rattle.number.proofs.Reading.{number-on, number-refused, number-next, read-number, next-read, next-make, follow-on, follow-same, counted-on, counted-refused}
+use Rattle.number.proofs.Reading.{number-on, number-refused, read-number, next-read, next-make}
 use Rattle.number.proofs.InRange.{below-is}
 use Rattle.tree.specs.TreeAt.{noKind}
-use Rattle.slot.specs.Field.{Stored, fixed, from, bounded, spanAt, storedTable, storedAt}
-use Rattle.slot.specs.Slot.{slotTable, slotBodyAt, slotAt, traitSpanAt}
+use Rattle.slot.specs.Field.{Stored, bounded, spanAt, storedTable, storedAt}
+use Rattle.slot.specs.Slot.{slotBodyAt, slotAt, traitSpanAt}
 
 module _ (s : List ℕ) (at : ℕ) where
   pub stored-on : (k n : ℕ) → below 4 s at ≡ done k n → next (read storedAt s at) ≡ next (read (getD storedTable k noKind) s n)

@@ -1,13 +1,13 @@
 -- A slot that was read whole: its kind, and what the kind holds. Assumes nothing.
-use Prim.Native.Nat.{ℕ, _≤_, _<_}
+use Prim.Native.Nat.{ℕ, _<_}
 use mathlib.Core.Path.{_≡_, refl, sym, ap, subst, _∙_}
 use mathlib.Core.List.{List}
 use native.Mathlib.Omega.{arith}
-use Rattle.number.specs.Grammar.{kind, Grammar, give, _>>=_, number, done, below, read}
+use Rattle.number.specs.Grammar.{kind, Grammar, give, number, done, below, read}
 use Rattle.number.proofs.Reading.{read-done, read-number, given}
 use Rattle.number.proofs.InRange.{below-is}
 use Rattle.tree.proofs.Ranges.{each}
-use Rattle.slot.specs.Slot.{Slot, empty, message, enum, flags, union, newtype, config, alias, trait, impl, slotKind, messageAt, enumAt, flagsAt, unionAt, newtypeAt, aliasAt, traitAt, implAt, made, slotBodyAt, slotAt}
+use Rattle.slot.specs.Slot.{Slot, message, enum, flags, union, newtype, alias, trait, impl, slotKind, messageAt, enumAt, flagsAt, unionAt, newtypeAt, aliasAt, traitAt, implAt, made, slotBodyAt, slotAt}
 
 -- what a slot of one kind holds
 pub record Made {A : Type 0} (f : A → Slot) (g : Grammar A) (s : List ℕ) (at : ℕ) (x : Slot) (end : ℕ) : Type 0 where

@@ -4,7 +4,7 @@ use Prim.Native.Nat.{ℕ, zero, suc, _-_, _≤_, _<_}
 use mathlib.Core.Path.{_≡_, refl, sym, ap, _∙_}
 use mathlib.Core.List.{List}
 use native.Mathlib.Omega.{arith}
-use Rattle.number.specs.Grammar.{Role, kind, Grammar, _>>=_, number, nested, tooDeep, Outcome, done, refused, andThen, below, read}
+use Rattle.number.specs.Grammar.{kind, Grammar, _>>=_, number, nested, tooDeep, Outcome, done, refused, andThen, below, read}
 use Rattle.number.specs.Answers.{next}
 use Rattle.number.specs.declared.Next.{Next}
 use Rattle.number.proofs.Reading.{read-bind, next-make}

@@ -1,16 +1,16 @@
 -- What the code's steps through a head say of its shape; where a tree ends, and what its parts are, by its head's shape.
 -- Assumes nothing.
-use Prim.Native.Nat.{ℕ, zero, suc, _+_, _-_, _^_, _≤_, _<_}
+use Prim.Native.Nat.{ℕ, _-_, _^_, _≤_, _<_}
 use mathlib.Core.Path.{_≡_, refl, sym, ap, subst, _∙_}
 use mathlib.Core.List.{List}
 use native.Mathlib.Omega.{arith}
-use lib.ListN.{length, getD, List·getD-eq-default}
-use Rattle.number.specs.Grammar.{Role, kind, name, value, Grammar, give, _>>=_, number, many, counted, tooDeep, Outcome, done, refused, andThen, below, read}
+use lib.ListN.{List·getD-eq-default}
+use Rattle.number.specs.Grammar.{Role, kind, name, value, Grammar, _>>=_, number, many, counted, tooDeep, Outcome, done, refused, andThen, below, read}
 use Rattle.number.specs.Answers.{next, follow}
 use Rattle.number.specs.declared.Next.{Next}
-use Rattle.number.proofs.Reading.{read-bind, read-number, next-read, next-make, next-then, follow-same, read-done, then-done, given, many-length, number-on, number-refused, counted-on, counted-refused}
+use Rattle.number.proofs.Reading.{read-bind, read-number, next-read, next-make, read-done, then-done, given, many-length, number-on, number-refused, counted-on, counted-refused}
 use Rattle.tree.specs.Tree.{Tree, Leaf, Wrap, Pair, leaf, subByte, bitsInline, wrap, pair, fixedArray, leafKind, leafFlag, leafNumber, generic, wrapKind, pairKind}
-use Rattle.tree.specs.TreeAt.{Node, none, one, two, sized, applied, kindTable, noKind, bodyAt, subByteAt, bitsAt, genericAt, plainAt, kindsOf, headAt, fill, treeAt, shape, plainHead}
+use Rattle.tree.specs.TreeAt.{Node, none, one, two, sized, applied, kindTable, bodyAt, subByteAt, bitsAt, plainAt, kindsOf, headAt, fill, treeAt, shape, plainHead}
 use Rattle.tree.specs.declared.Sort.{Sort}
 use Rattle.tree.specs.declared.Head.{Head}
 use Rattle.tree.proofs.Ranges.{each}

@@ -1,6 +1,6 @@
 -- An encoding in the image: 0 Default, 1 Varint, 2 ZigZag, 3 Delta and then another encoding, 32 levels at most.
 use Prim.Native.Nat.{ℕ}
-use mathlib.Core.List.{List, [], _∷_}
+use mathlib.Core.List.{[], _∷_}
 use lib.ListN.{getD}
 use Rattle.number.specs.Grammar.{kind, Grammar, give, _>>=_, number, nested}
 use Rattle.tree.specs.TreeAt.{noKind}

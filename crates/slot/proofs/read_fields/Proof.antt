@@ -1,15 +1,12 @@
 use borrow.Author.Needs.{needs}
 use native.Mathlib.Omega.{arith}
-use mathlib.Core.Path.{_≡_, refl, sym, ap, _∙_}
+use mathlib.Core.Path.{_≡_, refl, sym, _∙_}
 use Rattle.number.specs.Grammar.{many, read}
 use Rattle.number.specs.Answers.{next, follow}
 use Rattle.number.proofs.Reading.{many-none, many-on, many-stop}
 use Rattle.slot.specs.Field.{fieldAt}
 use Rattle.slot.proofs.read_fields.Statement.{statement}
 use Rattle.slot.proofs.read_fields.Tie as tie
-use Rattle.slot.proofs.read_fields.Reads as reads
-use Rattle.slot.proofs.read_fields.Lts as lts
-use Rattle.slot.proofs.skip_field.Reads as skip-field-reads
 
 abbrev Inv-loop : tie.InvT-loop
 Inv-loop image at count names left₀ p₀ left p = next (read (many count (fieldAt names)) image at) ≡ next (read (many left (fieldAt names)) image p)
@@ -17,43 +14,13 @@ Inv-loop image at count names left₀ p₀ left p = next (read (many count (fiel
 abbrev μ-loop : tie.MeasureT-loop
 μ-loop image at count names left₀ p₀ left p = left
 
--- src/lib.rt:59:5
-loop-holds : tie.Need-loop-holds Inv-loop μ-loop
-loop-holds c = refl
-
--- src/lib.rt:60:15
-skip-field-requires : tie.Need-skip-field-requires Inv-loop μ-loop
-skip-field-requires c κs = search needs
-
--- src/lib.rt:61:22
-enum-known-after : tie.Need-enum-known-after Inv-loop μ-loop
-enum-known-after c = search needs
-
--- src/lib.rt:63:17
-sub-left : tie.Need-sub-left Inv-loop μ-loop
-sub-left c = omega arith
-
--- src/lib.rt:59:5
-loop-less : tie.Need-loop-less Inv-loop μ-loop
-loop-less c = omega arith
-
--- src/lib.rt:59:5
 loop-again : tie.Need-loop-again Inv-loop μ-loop
 unfolding follow
 loop-again c = c .before .before .before .before .before .loop .inv ∙ many-on _ _ _ _ (c .before .before .before .before .loop-test .taken) _ (sym (c .before .before .before .skip-field .ensures) ∙ c .before .after .given .1)
 
--- src/lib.rt:65:27
-enum-known-r : tie.Need-enum-known-r Inv-loop μ-loop
-enum-known-r c = search needs
-
--- src/lib.rt:66:17
 returns : tie.Need-returns Inv-loop μ-loop
 unfolding follow
 returns c = sym (c .before .before .before .before .before .loop .inv ∙ many-stop _ _ _ _ (c .before .before .before .before .loop-test .taken) _ _ (sym (c .before .before .before .skip-field .ensures) ∙ c .before .r .given .1))
-
--- src/lib.rt:54:1
-returns-2 : tie.Need-returns-2 Inv-loop μ-loop
-returns-2 c = sym (c .before .loop .inv ∙ many-none _ _ _ _ (c .loop-test .left))
 
 pub read-fields-spec : {M : Type 1} → statement M
 read-fields-spec =
@@ -61,12 +28,12 @@ read-fields-spec =
     (tie.spec
     Inv-loop
     μ-loop
-    loop-holds
-    skip-field-requires
-    enum-known-after
-    sub-left
-    loop-less
+    (λ c. refl)
+    (λ c κs. search needs)
+    (λ c. search needs)
+    (λ c. omega arith)
+    (λ c. omega arith)
     loop-again
-    enum-known-r
+    (λ c. search needs)
     returns
-    returns-2)
+    (λ c. sym (c .before .loop .inv ∙ many-none _ _ _ _ (c .loop-test .left))))

@@ -1,6 +1,6 @@
 use native.Mathlib.Omega.{arith}
 use mathlib.Core.Logic.{inl, inr, ⊎-elim}
-use mathlib.Core.Path.{refl, sym, _∙_}
+use mathlib.Core.Path.{sym, _∙_}
 use Rattle.number.specs.Grammar.{read}
 use Rattle.number.specs.Answers.{follow}
 use Rattle.number.proofs.Reading.{next-make}
@@ -10,95 +10,43 @@ use Rattle.slot.proofs.Steps.{past-table}
 use borrow.Author.Needs.{needs}
 use Rattle.slot.proofs.read_slot_body.Statement.{statement}
 use Rattle.slot.proofs.read_slot_body.Tie as tie
-use Rattle.slot.proofs.read_slot_body.Reads as reads
-use Rattle.slot.proofs.read_slot_body.Lts as lts
-use Rattle.slot.proofs.skip_alias.Reads as skip-alias-reads
-use Rattle.slot.proofs.skip_enum.Reads as skip-enum-reads
-use Rattle.slot.proofs.skip_flags.Reads as skip-flags-reads
-use Rattle.slot.proofs.skip_impl.Reads as skip-impl-reads
-use Rattle.slot.proofs.skip_message.Reads as skip-message-reads
-use Rattle.slot.proofs.skip_newtype.Reads as skip-newtype-reads
-use Rattle.slot.proofs.skip_trait.Reads as skip-trait-reads
-use Rattle.slot.proofs.skip_union.Reads as skip-union-reads
 
--- src/lib.rt:279:14
-skip-message-requires : tie.Need-skip-message-requires
-skip-message-requires c κs = search needs
-
--- src/lib.rt:280:14
-skip-enum-requires : tie.Need-skip-enum-requires
-skip-enum-requires c κs = search needs
-
--- src/lib.rt:281:14
-skip-flags-requires : tie.Need-skip-flags-requires
-skip-flags-requires c κs = search needs
-
--- src/lib.rt:282:14
-skip-union-requires : tie.Need-skip-union-requires
-skip-union-requires c κs = search needs
-
--- src/lib.rt:283:14
-skip-newtype-requires : tie.Need-skip-newtype-requires
-skip-newtype-requires c κs = search needs
-
--- src/lib.rt:284:14
-skip-alias-requires : tie.Need-skip-alias-requires
-skip-alias-requires c κs = search needs
-
--- src/lib.rt:285:14
-skip-trait-requires : tie.Need-skip-trait-requires
-skip-trait-requires c κs = search needs
-
--- src/lib.rt:286:14
-skip-impl-requires : tie.Need-skip-impl-requires
-skip-impl-requires c κs = search needs
-
--- src/lib.rt:273:1
 returns : tie.Need-returns
 unfolding slotBodyAt read
 returns c = ⊎-elim (λ e. rw e) (λ e. rw e) (c .match .keys1)
 
--- src/lib.rt:273:1
 returns-2 : tie.Need-returns-2
 unfolding slotBodyAt follow
 returns-2 c = rw (c .before .match .keys2) (c .skip-message .ensures ∙ sym (next-make _ message _ _))
 
--- src/lib.rt:273:1
 returns-3 : tie.Need-returns-3
 unfolding slotBodyAt follow
 returns-3 c = rw (c .before .match .keys3) (c .skip-enum .ensures ∙ sym (next-make _ enum _ _))
 
--- src/lib.rt:273:1
 returns-4 : tie.Need-returns-4
 unfolding slotBodyAt follow
 returns-4 c = rw (c .before .match .keys4) (c .skip-flags .ensures ∙ sym (next-make _ flags _ _))
 
--- src/lib.rt:273:1
 returns-5 : tie.Need-returns-5
 unfolding slotBodyAt follow
 returns-5 c = rw (c .before .match .keys5) (c .skip-union .ensures ∙ sym (next-make _ union _ _))
 
--- src/lib.rt:273:1
 returns-6 : tie.Need-returns-6
 unfolding slotBodyAt follow
 returns-6 c = rw (c .before .match .keys6) (c .skip-newtype .ensures ∙ sym (next-make _ newtype _ _))
 
--- src/lib.rt:273:1
 returns-7 : tie.Need-returns-7
 unfolding slotBodyAt follow
 returns-7 c = rw (c .before .match .keys7) (c .skip-alias .ensures ∙ sym (next-make _ alias _ _))
 
--- src/lib.rt:273:1
 returns-8 : tie.Need-returns-8
 unfolding slotBodyAt follow
 returns-8 c = rw (c .before .match .keys8) (c .skip-trait .ensures ∙ sym (next-make _ trait _ _))
 
--- src/lib.rt:273:1
 returns-9 : tie.Need-returns-9
 unfolding slotBodyAt follow
 returns-9 c = rw (c .before .match .keys9) (c .skip-impl .ensures ∙ sym (next-make _ impl _ _))
 
--- src/lib.rt:273:1
 returns-10 : tie.Need-returns-10
 unfolding slotBodyAt
 returns-10 c = let r = c .match .rest in sym (past-table _ _ (slotTable (c .before .before .args .names)) _ (past 9 _ (past 8 _ (past 7 _ (past 6 _ (past 5 _ (past 4 _ (past 3 _ (past 2 _ (past 1 _ (past 0 _ (omega arith) (λ e. r .0 .0 .0 .0 .0 .0 .0 .0 .1 (inl e))) (r .0 .0 .0 .0 .0 .0 .0 .1)) (r .0 .0 .0 .0 .0 .0 .1)) (r .0 .0 .0 .0 .0 .1)) (r .0 .0 .0 .0 .1)) (r .0 .0 .0 .1)) (λ e. r .0 .0 .0 .0 .0 .0 .0 .0 .1 (inr e))) (r .0 .0 .1)) (r .0 .1)) (r .1)))
@@ -107,14 +55,14 @@ pub read-slot-body-spec : {M : Type 1} → statement M
 read-slot-body-spec =
     tie.close
     (tie.spec
-    skip-message-requires
-    skip-enum-requires
-    skip-flags-requires
-    skip-union-requires
-    skip-newtype-requires
-    skip-alias-requires
-    skip-trait-requires
-    skip-impl-requires
+    (λ c κs. search needs)
+    (λ c κs. search needs)
+    (λ c κs. search needs)
+    (λ c κs. search needs)
+    (λ c κs. search needs)
+    (λ c κs. search needs)
+    (λ c κs. search needs)
+    (λ c κs. search needs)
     returns
     returns-2
     returns-3

@@ -1,5 +1,5 @@
 use Rattle.tree.proofs.Levels.{deep-told}
-use mathlib.Core.Path.{sym, ap, _∙_}
+use mathlib.Core.Path.{sym, _∙_}
 use Rattle.number.proofs.Reading.{follow-on, follow-stop}
 use Rattle.tree.proofs.Shapes.{walk, tree-deep, tree-ends}
 use native.Mathlib.Omega.{arith}
@@ -41,117 +41,89 @@ read-tree-known t = (
   skip-whole-reads.Learnt,
 )
 
--- src/lib.rt:137:36
 read-tree-kinds-of-requires : (t : ℕ) → read-tree-lts.Need-kinds-of-requires (read-tree-known t) (read-tree-at t) read-tree.Post
 read-tree-kinds-of-requires t c κs = search needs
 
--- src/lib.rt:137:9
 read-tree-too-deep-requires : (t : ℕ) → read-tree-lts.Need-too-deep-requires (read-tree-known t) (read-tree-at t) read-tree.Post
 read-tree-too-deep-requires t c κs = search needs
 
--- src/lib.rt:137:9
 read-tree-returns : (t : ℕ) → read-tree-lts.Need-returns (read-tree-known t) (read-tree-at t) read-tree.Post
 read-tree-returns t c = deep-told _ _ (c .before .kinds-of .ensures) (c .too-deep .ensures) ∙ sym (tree-deep _ _ _ _ _ (c .before .before .if1 .taken))
 
--- src/lib.rt:139:11
 read-tree-read-head-requires : (t : ℕ) → read-tree-lts.Need-read-head-requires (read-tree-known t) (read-tree-at t) read-tree.Post
 read-tree-read-head-requires t c κs = search needs
 
--- src/lib.rt:140:29
 read-tree-enum-known-after : (t : ℕ) → read-tree-lts.Need-enum-known-after (read-tree-known t) (read-tree-at t) read-tree.Post
 read-tree-enum-known-after t c = search needs
 
--- src/lib.rt:141:22
 read-tree-enum-known-body : (t : ℕ) → read-tree-lts.Need-enum-known-body (read-tree-known t) (read-tree-at t) read-tree.Post
 read-tree-enum-known-body t c = search needs
 
--- src/lib.rt:141:54
 read-tree-sub-read-tree : (t : ℕ) → read-tree-lts.Need-sub-read-tree (read-tree-known t) (read-tree-at t) read-tree.Post
 read-tree-sub-read-tree t c = omega arith
 
--- src/lib.rt:141:31
 read-tree-read-tree-requires : (t : ℕ) → read-tree-lts.Need-read-tree-requires (read-tree-known t) (read-tree-at t) read-tree.Post
 read-tree-read-tree-requires t c κs = (omega arith, search needs)
 
--- src/lib.rt:142:22
 read-tree-enum-known-body-2 : (t : ℕ) → read-tree-lts.Need-enum-known-body-2 (read-tree-known t) (read-tree-at t) read-tree.Post
 read-tree-enum-known-body-2 t c = search needs
 
--- src/lib.rt:142:60
 read-tree-sub-read-tree-2 : (t : ℕ) → read-tree-lts.Need-sub-read-tree-2 (read-tree-known t) (read-tree-at t) read-tree.Post
 read-tree-sub-read-tree-2 t c = omega arith
 
--- src/lib.rt:142:37
 read-tree-read-tree-requires-2 : (t : ℕ) → read-tree-lts.Need-read-tree-requires-2 (read-tree-known t) (read-tree-at t) read-tree.Post
 read-tree-read-tree-requires-2 t c κs = (omega arith, search needs)
 
--- src/lib.rt:143:22
 read-tree-enum-known-after-2 : (t : ℕ) → read-tree-lts.Need-enum-known-after-2 (read-tree-known t) (read-tree-at t) read-tree.Post
 read-tree-enum-known-after-2 t c = search needs
 
--- src/lib.rt:143:56
 read-tree-sub-read-tree-3 : (t : ℕ) → read-tree-lts.Need-sub-read-tree-3 (read-tree-known t) (read-tree-at t) read-tree.Post
 read-tree-sub-read-tree-3 t c = omega arith
 
--- src/lib.rt:143:32
 read-tree-read-tree-requires-3 : (t : ℕ) → read-tree-lts.Need-read-tree-requires-3 (read-tree-known t) (read-tree-at t) read-tree.Post
 read-tree-read-tree-requires-3 t c κs = (omega arith, search needs)
 
--- src/lib.rt:144:27
 read-tree-enum-known-r : (t : ℕ) → read-tree-lts.Need-enum-known-r (read-tree-known t) (read-tree-at t) read-tree.Post
 read-tree-enum-known-r t c = search needs
 
--- src/lib.rt:146:21
 read-tree-enum-known-body-3 : (t : ℕ) → read-tree-lts.Need-enum-known-body-3 (read-tree-known t) (read-tree-at t) read-tree.Post
 read-tree-enum-known-body-3 t c = search needs
 
--- src/lib.rt:146:59
 read-tree-sub-read-tree-4 : (t : ℕ) → read-tree-lts.Need-sub-read-tree-4 (read-tree-known t) (read-tree-at t) read-tree.Post
 read-tree-sub-read-tree-4 t c = omega arith
 
--- src/lib.rt:146:36
 read-tree-read-tree-requires-4 : (t : ℕ) → read-tree-lts.Need-read-tree-requires-4 (read-tree-known t) (read-tree-at t) read-tree.Post
 read-tree-read-tree-requires-4 t c κs = (omega arith, search needs)
 
--- src/lib.rt:147:22
 read-tree-enum-known-after-3 : (t : ℕ) → read-tree-lts.Need-enum-known-after-3 (read-tree-known t) (read-tree-at t) read-tree.Post
 read-tree-enum-known-after-3 t c = search needs
 
--- src/lib.rt:147:32
 read-tree-skip-whole-requires : (t : ℕ) → read-tree-lts.Need-skip-whole-requires (read-tree-known t) (read-tree-at t) read-tree.Post
 read-tree-skip-whole-requires t c κs = search needs
 
--- src/lib.rt:148:27
 read-tree-enum-known-r-2 : (t : ℕ) → read-tree-lts.Need-enum-known-r-2 (read-tree-known t) (read-tree-at t) read-tree.Post
 read-tree-enum-known-r-2 t c = search needs
 
--- src/lib.rt:150:26
 read-tree-enum-known-body-4 : (t : ℕ) → read-tree-lts.Need-enum-known-body-4 (read-tree-known t) (read-tree-at t) read-tree.Post
 read-tree-enum-known-body-4 t c = search needs
 
--- src/lib.rt:150:58
 read-tree-sub-read-tree-5 : (t : ℕ) → read-tree-lts.Need-sub-read-tree-5 (read-tree-known t) (read-tree-at t) read-tree.Post
 read-tree-sub-read-tree-5 t c = omega arith
 
--- src/lib.rt:150:35
 read-tree-read-tree-requires-5 : (t : ℕ) → read-tree-lts.Need-read-tree-requires-5 (read-tree-known t) (read-tree-at t) read-tree.Post
 read-tree-read-tree-requires-5 t c κs = (omega arith, search needs)
 
--- src/lib.rt:151:23
 read-tree-enum-known-r-3 : (t : ℕ) → read-tree-lts.Need-enum-known-r-3 (read-tree-known t) (read-tree-at t) read-tree.Post
 read-tree-enum-known-r-3 t c = search needs
 
--- src/lib.rt:133:1
 read-tree-returns-2 : (t : ℕ) → read-tree-lts.Need-returns-2 (read-tree-known t) (read-tree-at t) read-tree.Post
 unfolding walk
 read-tree-returns-2 t c = sym (tree-ends _ _ _ _ _ (c .before .before .before .before .if1 .left) _ (sym (c .before .before .before .read-head .ensures) ∙ c .before .after .given .1))
 
--- src/lib.rt:133:1
 read-tree-returns-3 : (t : ℕ) → read-tree-lts.Need-returns-3 (read-tree-known t) (read-tree-at t) read-tree.Post
 unfolding walk
 read-tree-returns-3 t c = c .read-tree .ensures ∙ sym (tree-ends _ _ _ _ _ (c .before .before .before .before .before .if1 .left) _ (sym (c .before .before .before .before .read-head .ensures) ∙ c .before .before .body .given .1))
 
--- src/lib.rt:133:1
 read-tree-returns-4 : (t : ℕ) → read-tree-lts.Need-returns-4 (read-tree-known t) (read-tree-at t) read-tree.Post
 unfolding walk
 read-tree-returns-4 t c =
@@ -159,14 +131,12 @@ read-tree-returns-4 t c =
     ∙ sym (follow-on _ _ _ (sym (c .before .before .before .before .read-tree2 .ensures) ∙ c .before .before .after2 .given .1))
     ∙ sym (tree-ends _ _ _ _ _ (c .before .before .before .before .before .before .before .before .before .if1 .left) _ (sym (c .before .before .before .before .before .before .before .before .read-head .ensures) ∙ c .before .before .before .before .before .before .body2 .given .1))
 
--- src/lib.rt:133:1
 read-tree-returns-5 : (t : ℕ) → read-tree-lts.Need-returns-5 (read-tree-known t) (read-tree-at t) read-tree.Post
 unfolding walk
 read-tree-returns-5 t c =
     sym (follow-stop _ _ _ _ (sym (c .before .before .before .read-tree2 .ensures) ∙ c .before .r .given .1))
     ∙ sym (tree-ends _ _ _ _ _ (c .before .before .before .before .before .before .before .before .if1 .left) _ (sym (c .before .before .before .before .before .before .before .read-head .ensures) ∙ c .before .before .before .before .before .body2 .given .1))
 
--- src/lib.rt:133:1
 read-tree-returns-6 : (t : ℕ) → read-tree-lts.Need-returns-6 (read-tree-known t) (read-tree-at t) read-tree.Post
 unfolding walk
 read-tree-returns-6 t c =
@@ -174,19 +144,16 @@ read-tree-returns-6 t c =
     ∙ sym (follow-on _ _ _ (sym (c .before .before .before .before .read-tree4 .ensures) ∙ c .before .before .after3 .given .1))
     ∙ sym (tree-ends _ _ _ _ _ (c .before .before .before .before .before .before .before .before .before .if1 .left) _ (sym (c .before .before .before .before .before .before .before .before .read-head .ensures) ∙ c .before .before .before .before .before .before .body3 .given .1))
 
--- src/lib.rt:133:1
 read-tree-returns-7 : (t : ℕ) → read-tree-lts.Need-returns-7 (read-tree-known t) (read-tree-at t) read-tree.Post
 unfolding walk
 read-tree-returns-7 t c =
     sym (follow-stop _ _ _ _ (sym (c .before .before .before .read-tree4 .ensures) ∙ c .before .r2 .given .1))
     ∙ sym (tree-ends _ _ _ _ _ (c .before .before .before .before .before .before .before .before .if1 .left) _ (sym (c .before .before .before .before .before .before .before .read-head .ensures) ∙ c .before .before .before .before .before .body3 .given .1))
 
--- src/lib.rt:133:1
 read-tree-returns-8 : (t : ℕ) → read-tree-lts.Need-returns-8 (read-tree-known t) (read-tree-at t) read-tree.Post
 unfolding walk
 read-tree-returns-8 t c = c .read-tree5 .ensures ∙ sym (tree-ends _ _ _ _ _ (c .before .before .before .before .before .if1 .left) _ (sym (c .before .before .before .before .read-head .ensures) ∙ c .before .before .body4 .given .1))
 
--- src/lib.rt:133:1
 read-tree-returns-9 : (t : ℕ) → read-tree-lts.Need-returns-9 (read-tree-known t) (read-tree-at t) read-tree.Post
 unfolding walk
 read-tree-returns-9 t c = sym (tree-ends _ _ _ _ _ (c .before .before .before .before .if1 .left) _ (sym (c .before .before .before .read-head .ensures) ∙ c .before .r3 .given .1))
