@@ -19,6 +19,7 @@ use oracle::workers::on_long_stack;
 const USAGE: &str = "\
 oracle compare --count N --seed S [--family F]   ours and the importer on generated images
 oracle exhaustive --bytes N                      ours and the importer on all short images
+oracle read < image                              what ours answers, and where the slots start
 oracle shrink < image                            the smallest image that differs like this one
 oracle survey --count N --seed S [--family F]    whole answers of the Rust alone, counted
 oracle record --count N --seed S --out FILE      images and the importer's answers
@@ -26,7 +27,7 @@ oracle bench                                     times of reading, with their ra
 oracle answer < image                            the lines of vexcheck
 oracle export-example > image                    the bond report as an image
 oracle families                                  the families of generated images
-compare, exhaustive and shrink need the feature `ours`, which links the library.
+compare, exhaustive, read and shrink need the feature `ours`, which links the library.
 ";
 
 type Failure = Box<dyn std::error::Error>;
@@ -52,6 +53,7 @@ fn run(arguments: &[String]) -> Result<bool, Failure> {
     match command.as_str() {
         "compare" => return run_compare(options),
         "exhaustive" => return run_exhaustive(options),
+        "read" => run_read()?,
         "shrink" => return run_shrink(),
         "survey" => return run_survey(options),
         "record" => run_record(options)?,
@@ -123,6 +125,20 @@ fn run_exhaustive(options: &[String]) -> Result<bool, Failure> {
         }
     }
     Ok(report("exhaustive", &outcome, start))
+}
+
+fn run_read() -> Result<(), Failure> {
+    let mut reading = Reading::unset();
+    ours()?(&image_from_input()?, &mut reading);
+    if reading.number != 0 {
+        println!("refused {} {}", reading.number, reading.value);
+        return Ok(());
+    }
+    println!("accepted, {} slots", reading.value);
+    for (slot, start) in reading.starts[..reading.value as usize].iter().enumerate() {
+        println!("slot {slot} at byte {start}");
+    }
+    Ok(())
 }
 
 fn run_shrink() -> Result<bool, Failure> {

@@ -77,24 +77,12 @@ fn judge(image: &[u8], starts: &[usize], frame: Frame) -> Reading
     if let Lowest::At(n) = lost_name(image, starts, count, names, finds) {
         return Reading::Refused(7, n);
     }
-    if let Lowest::At(i) = loops::lowest_looped(
-        image,
-        starts,
-        count,
-        names,
-        finds,
-        Sort::Resolved,
-    ) {
+    let newtype = loops::lowest_looped(image, starts, count, names, finds, Sort::Resolved);
+    if let Lowest::At(i) = newtype {
         return Reading::Refused(8, i);
     }
-    if let Lowest::At(i) = loops::lowest_looped(
-        image,
-        starts,
-        count,
-        names,
-        finds,
-        Sort::Expression,
-    ) {
+    let alias = loops::lowest_looped(image, starts, count, names, finds, Sort::Expression);
+    if let Lowest::At(i) = alias {
         return Reading::Refused(9, i);
     }
     Reading::Accepted(frame)
