@@ -1,0 +1,262 @@
+-- The starred lines of the bench sheet that concern widths and sizes, the image shown, and cases at the edge.
+use mathlib.Core.Path.{_≡_, refl}
+use Prim.Native.Nat.{ℕ, zero, suc, _-_, _^_}
+use mathlib.Core.List.{List, [], _∷_, _++_, map}
+use mathlib.Core.Option.{none}
+use Rattle.tree.specs.Tree.{Tree, Leaf, leaf, wrap, fixedArray, pair, generic, primitive, subByte, semantic, named, bitsInline, qualified, optional, array, vec3, resultOf}
+use Rattle.tree.specs.Encoding.{Encoding, default, varint, zigZag, delta}
+use Rattle.slot.specs.Field.{Field, Stored}
+use Rattle.slot.specs.Slot.{Slot, message, enum, flags, union, newtype}
+use Rattle.image.specs.Schema.{Schema, slotOf}
+use Rattle.sizes.specs.Widths.{highest, digits, bitLength, ordinalBits, enumBits, bytesTo, flagsBytes, has, enumBitsAt, flagsBytesAt}
+use Rattle.sizes.specs.Sizes.{limited, then, primitiveBits, semanticBits, leafSize, wrapSize, typeSize, varintEnd, zigZagEnd, encodedSize, fieldSize, addFields, addVariants, unionSize}
+use Rattle.sizes.specs.Names.{Content, fields, variants, bits, terminal, anything, contentIn, contentOf, contentSize, nameRule, nameWithin, nameSize}
+use Rattle.sizes.specs.Check.{brought, bodySize, ownSize, store, Checked, accepted, refused, storing, turn, onward, turns, checkSizes, row, slotRow, rowsFrom, tableOf}
+use Rattle.sizes.specs.Lengths.{Length, ofPrimitive, ofSubByte, ofSemantic, ofNamed, ofBitsInline, ofQualified, ofWrap, ofFixedArray, ofMap, ofOk, ofErr, ofGeneric, absent, present, ofElements, ofCopies, noCopy, oneCopy, plain, ofVarint, ofZigZag, ofDelta, noField, oneField, ofMessage, ofVariant, ofNoVariant, ofBits, ofTerminal, ofAnything, SlotLength}
+
+-- the answer of the check: the size table, or the place of refusal 11
+pub data Answer : Type 0 where
+  table : List ℕ → Answer
+  refusal : (slot : ℕ) → Answer
+
+abbrev pub answerOf : Schema → Checked → Answer
+answerOf S (accepted st) = table (tableOf S st)
+answerOf S (refused i) = refusal i
+
+-- ## Schemas written short
+
+-- slots that are all declared, in order
+abbrev inOrder : ℕ → List Slot → List ℕ
+inOrder i [] = []
+inOrder i (x ∷ xs) = i ∷ inOrder (suc i) xs
+
+abbrev all : List Slot → Schema
+all slots = record { finds = []; slots = slots; declared = inOrder 0 slots }
+
+abbrev declaring : List ℕ → List Slot → Schema
+declaring ds slots = record { finds = []; slots = slots; declared = ds }
+
+abbrev a-field : Encoding → Tree → Field
+a-field e t = record { fieldName = 0; encoding = e; type = t }
+
+abbrev each : List Tree → List Field
+each [] = []
+each (t ∷ ts) = a-field default t ∷ each ts
+
+abbrev a-message : Stored → List Field → Slot
+a-message stored fs = message (record { span = record { offset = 0; length = 0 }; stored = stored; fields = fs })
+
+abbrev of : List Tree → Slot
+of ts = a-message Stored.none (each ts)
+
+abbrev encoded : Encoding → Tree → Slot
+encoded e t = a-message Stored.none (a-field e t ∷ [])
+
+abbrev a-union : List (List Field) → Slot
+a-union vs = union (record { stored = Stored.none; variants = vs })
+
+abbrev a-newtype : Tree → Slot
+a-newtype t = newtype (record { inner = t; terminal = t })
+
+abbrev an-enum : (nonExhaustive : ℕ) → List ℕ → Slot
+an-enum x os = enum (record { backing = 0; nonExhaustive = x; storedBits = 0; ordinals = record { live = os } })
+
+abbrev stored-enum : (bits : ℕ) → List ℕ → Slot
+stored-enum b os = enum (record { backing = 0; nonExhaustive = 0; storedBits = b; ordinals = record { live = os } })
+
+abbrev some-flags : List ℕ → Slot
+some-flags bs = flags (record { storedBytes = 0; bits = record { live = bs } })
+
+abbrev bool : Tree
+bool = leaf (primitive 0)
+
+abbrev u8 : Tree
+u8 = leaf (primitive 1)
+
+abbrev u16 : Tree
+u16 = leaf (primitive 2)
+
+abbrev u32 : Tree
+u32 = leaf (primitive 3)
+
+abbrev string : Tree
+string = leaf (semantic 0)
+
+abbrev slot : ℕ → Tree
+slot i = leaf (named i)
+
+-- ## Lines
+
+pub record Line : Type 0 where
+  pub of : Schema
+  pub gives : Answer
+
+abbrev shows : Schema → List ℕ → Line
+shows S t = record { of = S; gives = table t }
+
+abbrev refuses : Schema → (slot : ℕ) → Line
+refuses S i = record { of = S; gives = refusal i }
+
+-- what the lines say, and what the check answers
+abbrev pub said : List Line → List Answer
+said ls = map (λ l. l .gives) ls
+
+abbrev pub answered : List Line → List Answer
+answered ls = map (λ l. answerOf (l .of) (checkSizes (l .of))) ls
+
+-- the starred lines of the bench sheet, in its order
+abbrev pub starred : List Line
+starred =
+    shows (all (an-enum 1 (255 ∷ []) ∷ an-enum 1 (256 ∷ []) ∷ [])) (row 4 8 0 ++ row 4 9 0)
+    ∷ shows (all (an-enum 0 [] ∷ [])) (row 4 1 0)
+    ∷ shows (all (some-flags (7 ∷ []) ∷ some-flags (8 ∷ []) ∷ [])) (row 5 1 0 ++ row 5 2 0)
+    ∷ shows (all (some-flags (31 ∷ []) ∷ some-flags (32 ∷ []) ∷ [])) (row 5 4 0 ++ row 5 8 0)
+    ∷ shows (all (of (wrap optional u32 ∷ []) ∷ [])) (row 2 1 33)
+    ∷ shows (all (of (pair resultOf u8 u32 ∷ []) ∷ [])) (row 2 9 33)
+    ∷ shows (all (of (fixedArray (wrap optional bool) 3 ∷ []) ∷ of (wrap vec3 (wrap optional bool) ∷ []) ∷ []))
+    (row 3 3 0 ++ row 2 3 6)
+    ∷ shows (all (a-union (each (u8 ∷ []) ∷ each (u32 ∷ []) ∷ []) ∷ [])) (row 2 16 40)
+    ∷ []
+
+pub starred-hold : answered starred ≡ said starred
+unfolding checkSizes turns turn onward ownSize bodySize storing store brought nameSize nameWithin nameRule contentSize contentOf contentIn slotOf typeSize leafSize wrapSize then limited primitiveBits semanticBits varintEnd zigZagEnd encodedSize fieldSize addFields addVariants unionSize tableOf rowsFrom slotRow enumBitsAt flagsBytesAt enumBits flagsBytes ordinalBits bitLength digits highest bytesTo has
+starred-hold = refl
+
+-- ## Other lines
+
+-- A { B }, B { u8 }, where B brings Fixed 3
+abbrev wrong : List ℕ → Schema
+wrong ds = declaring ds (of (slot 1 ∷ []) ∷ a-message (Stored.fixed 3) (each (u8 ∷ [])) ∷ [])
+
+-- A { A }
+abbrev self : Schema
+self = all (of (slot 0 ∷ []) ∷ [])
+
+abbrev pub others : List Line
+others =
+    -- the image shown
+    shows (all (an-enum 0 (0 ∷ 4 ∷ []) ∷ a-message Stored.none (a-field default (slot 0) ∷ a-field varint u32 ∷ []) ∷ []))
+    (row 4 3 0 ++ row 2 11 43)
+    -- 2^60 - 1 fixed U8, and one more
+    ∷ shows (all (of (fixedArray u8 (2 ^ 60 - 1) ∷ []) ∷ [])) (row 1 (2 ^ 63 - 8) (2 ^ 63 - 8))
+    ∷ refuses (all (of (fixedArray u8 (2 ^ 60) ∷ []) ∷ [])) 0
+    -- a factor above the limit, on nothing
+    ∷ shows (all (of (fixedArray (leaf (primitive 13)) (2 ^ 64 - 1) ∷ []) ∷ [])) (row 1 0 0)
+    -- the elements of an array are not worked out, the element of a fixed array of size 0 is
+    ∷ shows (all (of (wrap array (fixedArray u8 (2 ^ 60)) ∷ []) ∷ [])) (row 3 8 0)
+    ∷ refuses (all (of (fixedArray (fixedArray u8 (2 ^ 60)) 0 ∷ []) ∷ [])) 0
+    -- a Delta of Varint on a U16, and a Varint on an Optional of one
+    ∷ shows (all (encoded (delta varint) u16 ∷ encoded varint (wrap optional u16) ∷ []))
+    (row 2 8 24 ++ row 2 8 80)
+    -- an empty message and an empty union
+    ∷ shows (all (of [] ∷ a-union [] ∷ [])) (row 1 0 0 ++ row 2 8 8)
+    -- an undeclared slot shows what is stored, and its names use that
+    ∷ shows (declaring (1 ∷ []) (stored-enum 5 (0 ∷ []) ∷ of (slot 0 ∷ []) ∷ [])) (row 4 5 0 ++ row 1 5 5)
+    -- A { B }, B { u8 }; a declaration points nowhere, another one repeats
+    ∷ shows (declaring (0 ∷ 1 ∷ 7 ∷ 0 ∷ []) (of (slot 1 ∷ []) ∷ of (u8 ∷ []) ∷ [])) (row 1 8 8 ++ row 1 8 8)
+    -- a stored size that is wrong reaches the turn of A before B's, and A's later turn mends it
+    ∷ shows (wrong (0 ∷ 1 ∷ [])) (row 1 3 3 ++ row 1 8 8)
+    ∷ shows (wrong (0 ∷ 1 ∷ 0 ∷ [])) (row 1 8 8 ++ row 1 8 8)
+    -- a stored size is used as it stands
+    ∷ shows (declaring (0 ∷ []) (of (slot 1 ∷ []) ∷ a-message (Stored.bounded 5 2) [] ∷ [])) (row 2 5 2 ++ row 2 5 2)
+    -- no copies of itself: from 0, although its only length is 0
+    ∷ shows (all (of (fixedArray (slot 0) 0 ∷ []) ∷ [])) (row 3 0 0)
+    ∷ shows self (row 3 0 0)
+    -- a newtype of Optional M, met twice on the way from M { N }
+    ∷ shows (declaring (1 ∷ []) (a-newtype (wrap optional (slot 1)) ∷ of (slot 0 ∷ []) ∷ [])) (row 0 0 0 ++ row 3 1 0)
+    -- a running largest passes the limit before a field without largest
+    ∷ refuses (declaring (1 ∷ []) (a-message (Stored.bounded 0 (2 ^ 62)) [] ∷ of (slot 0 ∷ slot 0 ∷ string ∷ []) ∷ [])) 1
+    -- the place is the declared slot whose turn it is
+    ∷ refuses (declaring (1 ∷ []) (of (fixedArray u8 (2 ^ 60) ∷ []) ∷ of (slot 0 ∷ []) ∷ [])) 1
+    ∷ []
+
+pub others-hold : answered others ≡ said others
+unfolding checkSizes turns turn onward ownSize bodySize storing store brought nameSize nameWithin nameRule contentSize contentOf contentIn slotOf typeSize leafSize wrapSize then limited primitiveBits semanticBits varintEnd zigZagEnd encodedSize fieldSize addFields addVariants unionSize tableOf rowsFrom slotRow enumBitsAt flagsBytesAt enumBits flagsBytes ordinalBits bitLength digits highest bytesTo has
+others-hold = refl
+
+-- ## The provisos are needed
+
+-- with a stored size that does not enclose: A's entry in `wrong` is Fixed 3, and A has a value of length 8
+pub wrong-length : SlotLength (wrong (0 ∷ 1 ∷ [])) 0 8
+unfolding contentOf contentIn slotOf primitiveBits
+wrong-length =
+    let b : SlotLength (wrong (0 ∷ 1 ∷ [])) 1 8 = ofNamed (ofMessage (oneField {n = 8} (plain ofPrimitive) noField)) in
+    ofNamed (ofMessage (oneField {n = 8} (plain b) noField))
+
+-- where something leads back to itself: A { A } is from 0, and has no value at all
+abbrev IsSelfLeaf : Leaf → Type 0
+IsSelfLeaf (primitive p) = ⊥
+IsSelfLeaf (subByte g b) = ⊥
+IsSelfLeaf (semantic m) = ⊥
+IsSelfLeaf (named zero) = Unit {0}
+IsSelfLeaf (named (suc i)) = ⊥
+IsSelfLeaf (bitsInline ns) = ⊥
+IsSelfLeaf (qualified n) = ⊥
+
+abbrev IsSelf : Tree → Type 0
+IsSelf (leaf l) = IsSelfLeaf l
+IsSelf (wrap w t) = ⊥
+IsSelf (fixedArray t k) = ⊥
+IsSelf (pair p t u) = ⊥
+IsSelf (generic n t) = ⊥
+
+abbrev IsSelfIn : Encoding → Tree → Type 0
+IsSelfIn default t = IsSelf t
+IsSelfIn varint t = ⊥
+IsSelfIn zigZag t = ⊥
+IsSelfIn (delta e) t = ⊥
+
+abbrev HasSelf : List Field → Type 0
+HasSelf [] = ⊥
+HasSelf (f ∷ fs) = IsSelfIn (f .encoding) (f .type)
+
+abbrev HoldsSelf : Content → Type 0
+HoldsSelf (fields fs) = HasSelf fs
+HoldsSelf (variants vs) = ⊥
+HoldsSelf (bits b) = ⊥
+HoldsSelf (terminal t) = ⊥
+HoldsSelf anything = ⊥
+
+holds-self : (i : ℕ) → IsSelfLeaf (named i) → HoldsSelf (contentOf self i)
+unfolding contentOf contentIn slotOf
+holds-self zero a = tt
+holds-self (suc i) a = absurd a
+
+no-length : {t : Tree} {n : ℕ} → Length self t n → IsSelf t → ⊥
+no-length d = elim d
+    as (λ t n x. IsSelf t → ⊥) (λ c t n x. Unit {0}) (λ t k n x. Unit {0})
+    (λ e t n x. IsSelfIn e t → ⊥) (λ fs n x. HasSelf fs → ⊥) (λ c n x. HoldsSelf c → ⊥) [
+      | ofPrimitive ↦ λ a. a
+      | ofSubByte ↦ λ a. a
+      | ofSemantic h ↦ λ a. a
+      | ofNamed {i = i} (l → h) ↦ λ a. h (holds-self i a)
+      | ofBitsInline ↦ λ a. a
+      | ofQualified ↦ λ a. a
+      | ofWrap l ↦ λ a. a
+      | ofFixedArray l ↦ λ a. a
+      | ofMap l ↦ λ a. a
+      | ofOk l ↦ λ a. a
+      | ofErr l ↦ λ a. a
+      | ofGeneric ↦ λ a. a
+      | absent ↦ tt
+      | present l ↦ tt
+      | ofElements l ↦ tt
+      | ofCopies l ↦ tt
+      | noCopy ↦ tt
+      | oneCopy l c ↦ tt
+      | plain (l → h) ↦ h
+      | ofVarint l ↦ λ a. a
+      | ofZigZag l ↦ λ a. a
+      | ofDelta l ↦ λ a. a
+      | noField ↦ λ a. a
+      | oneField (l → h) c ↦ h
+      | ofMessage (l → h) ↦ h
+      | ofVariant m l ↦ λ a. a
+      | ofNoVariant ↦ λ a. a
+      | ofBits ↦ λ a. a
+      | ofTerminal l ↦ λ a. a
+      | ofAnything ↦ λ a. a
+    ]
+
+pub self-none : {n : ℕ} → SlotLength self 0 n → ⊥
+self-none l = no-length l tt

@@ -1,0 +1,179 @@
+-- Sizes depend on what the names in their parts come to, and on nothing else. So, where no newtype leads back to itself,
+-- `nameSize` obeys the rule for names, and nothing else does.
+use mathlib.Core.Path.{_≡_, refl, sym, ap, ap₂, fun-ext, _∙_}
+use Prim.Native.Nat.{ℕ, zero, suc, _+_, _*_, _<_}
+use native.Mathlib.Omega.{arith}
+use native.Mathlib.Nat.{mul-le-mul-right}
+use native.Mathlib.Decide.{ℕ-discrete}
+use mathlib.Core.Bool.{Bool, true, false, cond}
+use mathlib.Core.List.{List, [], _∷_, List·Memᴰ, List·Memᴰ·head, Memᴰ·append-left, Memᴰ·append-right}
+use mathlib.Core.Option.{Option, some}
+use mathlib.Core.Logic.{by-cases}
+use lib.ListN.{length, getD, set}
+use lib.Seq.{getD-set-same, getD-set-other}
+use borrow.Author.Tests.{eq-eqb, ne-eqb}
+use Rattle.tree.specs.Tree.{Tree, Leaf, leaf, wrap, fixedArray, pair, generic, primitive, subByte, semantic, named, bitsInline, qualified, mapOf, resultOf}
+use Rattle.tree.specs.Encoding.{Encoding, default, varint, zigZag, delta}
+use Rattle.slot.specs.Field.{Field}
+use Rattle.image.specs.Schema.{Schema}
+use Rattle.sizes.specs.Sizes.{Size, Fixed, Bounded, Open, Worked, Sized, limited, then, Resolver, leafSize, widened, Count, atMostOne, anyNumber, exactly, countOf, wrapSize, typeSize, encodedSize, fieldSize, added, addFields, mark, addVariants, unionSize}
+use Rattle.sizes.specs.Names.{Content, fields, variants, bits, terminal, anything, contentOf, State, Working, inserted, orElse, contentSize, nameRule, nameWithin, enough, nameSize}
+use Rattle.sizes.specs.Check.{bodySize}
+use Rattle.sizes.specs.Lengths.{wrapParts, typeParts, encodedParts, fieldsParts, variantsParts, contentParts, terminalParts, terminalsOf, NewtypesEnd}
+use Rattle.sizes.specs.Rank.{unmarkedBelow, unmarked-all, unmarked-fresh, part-below, terminalRank, terminal-rank, terminal-rank-bound}
+
+-- ## Two resolvers that agree on the parts of a thing give it one size
+
+abbrev pub Agree : (r r′ : Resolver) → List ℕ → Type 0
+Agree r r′ js = (j : ℕ) → List·Memᴰ j js → r j ≡ r′ j
+
+module _ (r r′ : Resolver) where
+  leaf-agree : (l : Leaf) → Agree r r′ (typeParts (leaf l)) → leafSize r l ≡ leafSize r′ l
+  unfolding leafSize typeParts
+  leaf-agree (primitive p) h = refl
+  leaf-agree (subByte g b) h = refl
+  leaf-agree (semantic m) h = refl
+  leaf-agree (named i) h = h i (List·Memᴰ·head refl)
+  leaf-agree (bitsInline ns) h = refl
+  leaf-agree (qualified n) h = refl
+
+  wrap-agree : (c : Count) (w w′ : Worked) (js : List ℕ) → (Agree r r′ js → w ≡ w′) → Agree r r′ (wrapParts c js) →
+      wrapSize c w ≡ wrapSize c w′
+  unfolding wrapSize
+  wrap-agree atMostOne w w′ js e h = rw (e h)
+  wrap-agree anyNumber w w′ js e h = refl
+  wrap-agree (exactly k) w w′ js e h = rw (e h)
+
+  type-agree : (t : Tree) → Agree r r′ (typeParts t) → typeSize r t ≡ typeSize r′ t
+  unfolding typeSize typeParts
+  type-agree (leaf l) h = leaf-agree l h
+  type-agree (wrap w t) h = wrap-agree (countOf w) (typeSize r t) (typeSize r′ t) (typeParts t) (type-agree t) h
+  type-agree (fixedArray t k) h = rw (type-agree t h)
+  type-agree (pair mapOf t u) h = refl
+  type-agree (pair resultOf t u) h =
+      let a = type-agree t (λ j p. h j (Memᴰ·append-left (typeParts u) p)) in
+      let b = type-agree u (λ j p. h j (Memᴰ·append-right (typeParts t) p)) in
+      rw (a, b)
+  type-agree (generic n t) h = refl
+
+  encoded-agree : (e : Encoding) (t : Tree) → Agree r r′ (encodedParts e t) → encodedSize r e t ≡ encodedSize r′ e t
+  unfolding encodedSize encodedParts
+  encoded-agree default t h = type-agree t h
+  encoded-agree varint t h = refl
+  encoded-agree zigZag t h = refl
+  encoded-agree (delta e) t h = encoded-agree e t h
+
+  fields-agree : (fs : List Field) → Agree r r′ (fieldsParts fs) → (total : Size) →
+      addFields r total fs ≡ addFields r′ total fs
+  unfolding addFields fieldSize fieldsParts
+  fields-agree [] h total = refl
+  fields-agree (f ∷ fs) h total =
+      ap₂ (λ (x : Worked) (y : Size → Worked). then x (λ s. then (limited (added total s)) y))
+      (encoded-agree (f .encoding) (f .type) (λ j p. h j (Memᴰ·append-left (fieldsParts fs) p)))
+      (fun-ext (fields-agree fs (λ j p. h j (Memᴰ·append-right (encodedParts (f .encoding) (f .type)) p))))
+
+  variants-agree : (vs : List (List Field)) → Agree r r′ (variantsParts vs) → (extremes : Size) →
+      addVariants r extremes vs ≡ addVariants r′ extremes vs
+  unfolding addVariants variantsParts
+  variants-agree [] h extremes = refl
+  variants-agree (v ∷ vs) h extremes =
+      ap₂ then (fields-agree v (λ j p. h j (Memᴰ·append-left (variantsParts vs) p)) (Fixed 0))
+      (fun-ext (λ s. variants-agree vs (λ j p. h j (Memᴰ·append-right (fieldsParts v) p)) (widened extremes s)))
+
+  union-agree : (vs : List (List Field)) → Agree r r′ (variantsParts vs) → unionSize r vs ≡ unionSize r′ vs
+  unfolding unionSize
+  union-agree vs h = rw (variants-agree vs h (Bounded mark 0))
+
+  pub body-agree : (c : Content) → Agree r r′ (contentParts c) → bodySize r c ≡ bodySize r′ c
+  unfolding bodySize contentParts
+  body-agree (fields fs) h = ap some (fields-agree fs h (Fixed 0))
+  body-agree (variants vs) h = ap some (union-agree vs h)
+  body-agree (bits b) h = refl
+  body-agree (terminal t) h = refl
+  body-agree anything h = refl
+
+-- the parts of a message or union are met inside it, those of a newtype beside it
+pub content-agree : (stored : Option Size) (beside beside′ inside inside′ : Resolver) (c : Content) →
+    Agree beside beside′ (terminalParts c) → Agree inside inside′ (contentParts c) →
+    contentSize stored beside inside c ≡ contentSize stored beside′ inside′ c
+unfolding contentSize terminalParts contentParts
+content-agree stored b b′ i i′ (fields fs) h h′ = ap (orElse stored) (fields-agree i i′ fs h′ (Fixed 0))
+content-agree stored b b′ i i′ (variants vs) h h′ = ap (orElse stored) (union-agree i i′ vs h′)
+content-agree stored b b′ i i′ (bits k) h h′ = refl
+content-agree stored b b′ i i′ (terminal t) h h′ = type-agree b b′ t h
+content-agree stored b b′ i i′ anything h h′ = refl
+
+-- ## The rule for names
+
+module _ (S : Schema) (st : State) where
+  abbrev count : ℕ
+  count = length (S .slots)
+
+  -- what is left to do: the slots that are not being worked out, and then the newtypes that follow
+  unfoldable left : Working → ℕ → ℕ
+  left w i = unmarkedBelow count w * suc (suc count) + terminalRank S i
+
+  left-inside : (w : Working) (i j : ℕ) → i < count → w i ≡ false → left (inserted i w) j < left w i
+  unfolding left
+  left-inside w i j h e =
+      let a = mul-le-mul-right (suc (suc count)) (unmarked-fresh count i w h e) in
+      let b = terminal-rank-bound S j in
+      omega arith
+
+  left-enough : (w : Working) (i : ℕ) → left w i < enough S
+  unfolding left
+  left-enough w i =
+      let a = mul-le-mul-right (suc (suc count)) (unmarked-all count w) in
+      let b = terminal-rank-bound S i in
+      omega arith
+
+  -- what goes by the rule for names, and by what goes by it, and so on
+  abbrev Obeys : (ℕ → Working → Resolver) → Type 0
+  Obeys X = (k : ℕ) (w : Working) (i : ℕ) → X (suc k) w i ≡ nameRule S st (X k) w i
+
+  within-obeys : Obeys (nameWithin S st)
+  unfolding nameWithin
+  within-obeys k w i = refl
+
+  module _ (ends : NewtypesEnd S) where
+    left-beside : (w : Working) (i j : ℕ) → List·Memᴰ j (terminalsOf S i) → left w j < left w i
+    unfolding left
+    left-beside w i j p = let a = terminal-rank S ends i j p in omega arith
+
+    agree : (X Y : ℕ → Working → Resolver) → Obeys X → Obeys Y → (f g : ℕ) (w : Working) (i : ℕ) → left w i < f →
+        left w i < g → X f w i ≡ Y g w i
+    unfolding nameRule
+    agree X Y x y zero g w i lf lg = absurd (omega arith)
+    agree X Y x y (suc f) zero w i lf lg = absurd (omega arith)
+    agree X Y x y (suc f) (suc g) w i lf lg =
+        x f w i ∙ go (w i) refl (λ w′ j h. agree X Y x y f g w′ j (omega arith) (omega arith)) ∙ sym (y g w i)
+      where
+        go : (b : Bool) → w i ≡ b → ((w′ : Working) (j : ℕ) → left w′ j < left w i → X f w′ j ≡ Y g w′ j) →
+            cond b (Sized (Open 0)) (contentSize (st i) (X f w) (X f (inserted i w)) (contentOf S i))
+            ≡ cond b (Sized (Open 0)) (contentSize (st i) (Y g w) (Y g (inserted i w)) (contentOf S i))
+        go true e less = refl
+        go false e less = content-agree (st i) (X f w) (Y g w) (X f (inserted i w)) (Y g (inserted i w)) (contentOf S i)
+            (λ j p. less w j (left-beside w i j p)) (λ j p. less (inserted i w) j (left-inside w i j (part-below S i j p) e))
+
+    pub name-obeys : (w : Working) (i : ℕ) → nameSize S st w i ≡ nameRule S st (nameSize S st) w i
+    unfolding nameSize nameWithin
+    name-obeys w i = let h = left-enough w i in
+        agree (nameWithin S st) (nameWithin S st) within-obeys within-obeys (enough S) (suc (enough S)) w i h (omega arith)
+
+    -- nothing else obeys it
+    pub name-only : (name : Working → Resolver) → ((w : Working) (i : ℕ) → name w i ≡ nameRule S st name w i) →
+        (w : Working) (i : ℕ) → name w i ≡ nameSize S st w i
+    unfolding nameSize
+    name-only name obeys w i = let h = left-enough w i in
+        agree (λ k. name) (nameWithin S st) (λ k. obeys) within-obeys (enough S) (enough S) w i h h
+
+  -- what is being worked out is a set
+  pub name-same : (w w′ : Working) → ((x : ℕ) → w x ≡ w′ x) → (i : ℕ) → nameSize S st w i ≡ nameSize S st w′ i
+  name-same w w′ same i = ap (λ (x : Working). nameSize S st x i) (fun-ext same)
+
+-- the set as a list of marks
+pub inserted-is : (marks : List Bool) (i j : ℕ) → i < length marks →
+    getD (set marks i true) j false ≡ inserted i (λ x. getD marks x false) j
+inserted-is marks i j h = by-cases (ℕ-discrete j i)
+    (λ e. rw (e, eq-eqb i i refl, getD-set-same marks i true false h))
+    (λ d. rw (ne-eqb j i d, getD-set-other marks i j true false d))

@@ -1,0 +1,195 @@
+-- Lengths of values, and what a type is made of.
+use mathlib.Core.Path.{_≡_}
+use Prim.Native.Nat.{ℕ, suc, _+_, _%_, _≤_}
+use mathlib.Core.List.{List, [], _∷_, _++_, List·Memᴰ}
+use mathlib.Core.Option.{Option, none, some}
+use lib.ListN.{length}
+use Rattle.tree.specs.Tree.{Tree, Leaf, Wrap, leaf, wrap, fixedArray, pair, generic, primitive, subByte, semantic, named, bitsInline, qualified, mapOf, resultOf}
+use Rattle.tree.specs.Encoding.{Encoding, default, varint, zigZag, delta}
+use Rattle.slot.specs.Field.{Field}
+use Rattle.image.specs.Schema.{Schema}
+use Rattle.sizes.specs.Sizes.{Size, smallest, largest, primitiveBits, semanticBits, Count, atMostOne, anyNumber, exactly, countOf, varintEnd, zigZagEnd}
+use Rattle.sizes.specs.Names.{Content, fields, variants, bits, terminal, anything, contentOf, State}
+
+-- ## The length rules
+
+-- these bits, or any length where there are none
+abbrev pub FixedOrAny : Option ℕ → ℕ → Type 0
+FixedOrAny (some b) n = n ≡ b
+FixedOrAny none n = Unit {0}
+
+-- a multiple of 8 in a span from 8
+pub record InSpan (end n : ℕ) : Type 0 where
+  pub eights : n % 8 ≡ 0
+  pub least : 8 ≤ n
+  pub most : n ≤ end
+
+mutual
+  -- a value of the type may have this length in bits
+  pub data Length (S : Schema) : Tree → ℕ → Type 0 where
+    ofPrimitive : {p : ℕ} → Length S (leaf (primitive p)) (primitiveBits p)
+    ofSubByte : {g b : ℕ} → Length S (leaf (subByte g b)) b
+    ofSemantic : {m n : ℕ} → FixedOrAny (semanticBits m) n → Length S (leaf (semantic m)) n
+    ofNamed : {i n : ℕ} → ContentLength S (contentOf S i) n → Length S (leaf (named i)) n
+    ofBitsInline : {ns : List ℕ} → Length S (leaf (bitsInline ns)) (length ns)
+    ofQualified : {k n : ℕ} → Length S (leaf (qualified k)) n
+    ofWrap : {w : Wrap} {t : Tree} {n : ℕ} → WrapLength S (countOf w) t n → Length S (wrap w t) n
+    ofFixedArray : {t : Tree} {k n : ℕ} → Copies S t k n → Length S (fixedArray t k) n
+    ofMap : {t u : Tree} {n : ℕ} → 8 ≤ n → Length S (pair mapOf t u) n
+    ofOk : {t u : Tree} {n : ℕ} → Length S t n → Length S (pair resultOf t u) (1 + n)
+    ofErr : {t u : Tree} {n : ℕ} → Length S u n → Length S (pair resultOf t u) (1 + n)
+    ofGeneric : {k n : ℕ} {t : Tree} → Length S (generic k t) n
+
+  -- kinds with one child
+  pub data WrapLength (S : Schema) : Count → Tree → ℕ → Type 0 where
+    absent : {t : Tree} → WrapLength S atMostOne t 1
+    present : {t : Tree} {n : ℕ} → Length S t n → WrapLength S atMostOne t (1 + n)
+    -- Array, Set
+    ofElements : {t : Tree} {n : ℕ} → 8 ≤ n → WrapLength S anyNumber t n
+    ofCopies : {t : Tree} {k n : ℕ} → Copies S t k n → WrapLength S (exactly k) t n
+
+  -- a sum of that many lengths of the type
+  pub data Copies (S : Schema) : Tree → ℕ → ℕ → Type 0 where
+    noCopy : {t : Tree} → Copies S t 0 0
+    oneCopy : {t : Tree} {k n m : ℕ} → Length S t n → Copies S t k m → Copies S t (suc k) (n + m)
+
+  -- a type in an encoding
+  pub data EncodedLength (S : Schema) : Encoding → Tree → ℕ → Type 0 where
+    plain : {t : Tree} {n : ℕ} → Length S t n → EncodedLength S default t n
+    ofVarint : {t : Tree} {n : ℕ} → InSpan (varintEnd t) n → EncodedLength S varint t n
+    ofZigZag : {t : Tree} {n : ℕ} → InSpan (zigZagEnd t) n → EncodedLength S zigZag t n
+    ofDelta : {e : Encoding} {t : Tree} {n : ℕ} → EncodedLength S e t n → EncodedLength S (delta e) t n
+
+  -- a sum over fields
+  pub data FieldsLength (S : Schema) : List Field → ℕ → Type 0 where
+    noField : FieldsLength S [] 0
+    oneField : {f : Field} {fs : List Field} {n m : ℕ} → EncodedLength S (f .encoding) (f .type) n →
+        FieldsLength S fs m → FieldsLength S (f ∷ fs) (n + m)
+
+  -- what a name stands for
+  pub data ContentLength (S : Schema) : Content → ℕ → Type 0 where
+    ofMessage : {fs : List Field} {n : ℕ} → FieldsLength S fs n → ContentLength S (fields fs) n
+    ofVariant : {vs : List (List Field)} {v : List Field} {n : ℕ} → List·Memᴰ v vs → FieldsLength S v n →
+        ContentLength S (variants vs) (8 + n)
+    ofNoVariant : ContentLength S (variants []) 8
+    ofBits : {b : ℕ} → ContentLength S (bits b) b
+    ofTerminal : {t : Tree} {n : ℕ} → Length S t n → ContentLength S (terminal t) n
+    ofAnything : {n : ℕ} → ContentLength S anything n
+
+-- ## What a type is made of
+
+abbrev pub leafParts : Leaf → List ℕ
+leafParts (primitive p) = []
+leafParts (subByte g b) = []
+leafParts (semantic m) = []
+leafParts (named i) = i ∷ []
+leafParts (bitsInline ns) = []
+leafParts (qualified n) = []
+
+-- elements of Array and Set are no parts
+abbrev pub wrapParts : Count → (child : List ℕ) → List ℕ
+wrapParts atMostOne child = child
+wrapParts anyNumber child = []
+wrapParts (exactly k) child = child
+
+-- the slots that a type names, elements of Array, Map and Set left out
+unfoldable pub typeParts : Tree → List ℕ
+typeParts (leaf l) = leafParts l
+typeParts (wrap w t) = wrapParts (countOf w) (typeParts t)
+typeParts (fixedArray t k) = typeParts t
+typeParts (pair mapOf t u) = []
+typeParts (pair resultOf t u) = typeParts t ++ typeParts u
+typeParts (generic n t) = typeParts t
+
+-- a Varint or ZigZag field has no parts
+unfoldable pub encodedParts : Encoding → Tree → List ℕ
+encodedParts default t = typeParts t
+encodedParts varint t = []
+encodedParts zigZag t = []
+encodedParts (delta e) t = encodedParts e t
+
+unfoldable pub fieldsParts : List Field → List ℕ
+fieldsParts [] = []
+fieldsParts (f ∷ fs) = encodedParts (f .encoding) (f .type) ++ fieldsParts fs
+
+unfoldable pub variantsParts : List (List Field) → List ℕ
+variantsParts [] = []
+variantsParts (v ∷ vs) = fieldsParts v ++ variantsParts vs
+
+unfoldable pub contentParts : Content → List ℕ
+contentParts (fields fs) = fieldsParts fs
+contentParts (variants vs) = variantsParts vs
+contentParts (bits b) = []
+contentParts (terminal t) = typeParts t
+contentParts anything = []
+
+abbrev pub partsOf : Schema → ℕ → List ℕ
+partsOf S i = contentParts (contentOf S i)
+
+-- the second is reached from the first, by a step or more
+pub data Reaches (next : ℕ → List ℕ) : ℕ → ℕ → Type 0 where
+  atOnce : {i k : ℕ} → List·Memᴰ k (next i) → Reaches next i k
+  byWayOf : {i j k : ℕ} → List·Memᴰ j (next i) → Reaches next j k → Reaches next i k
+
+-- what is reached, the start included
+pub data From (next : ℕ → List ℕ) (i k : ℕ) : Type 0 where
+  itself : i ≡ k → From next i k
+  reached : Reaches next i k → From next i k
+
+-- nothing that is reached, the start included, is reached again from itself
+abbrev pub NoLoop : (ℕ → List ℕ) → ℕ → Type 0
+NoLoop next i = (k : ℕ) → From next i k → ¬ Reaches next k k
+
+-- a slot leads to another by parts
+abbrev pub LeadsTo : Schema → ℕ → ℕ → Type 0
+LeadsTo S = Reaches (partsOf S)
+
+-- a type is made of the slots so reached from it, its own included
+abbrev pub MadeOf : Schema → ℕ → ℕ → Type 0
+MadeOf S = From (partsOf S)
+
+abbrev pub NothingLeadsBack : Schema → ℕ → Type 0
+NothingLeadsBack S = NoLoop (partsOf S)
+
+-- parts of a newtype's terminal type alone
+unfoldable pub terminalParts : Content → List ℕ
+terminalParts (fields fs) = []
+terminalParts (variants vs) = []
+terminalParts (bits b) = []
+terminalParts (terminal t) = typeParts t
+terminalParts anything = []
+
+abbrev pub terminalsOf : Schema → ℕ → List ℕ
+terminalsOf S i = terminalParts (contentOf S i)
+
+-- no newtype leads back to itself by terminal types alone: refusal 8 is for the others
+abbrev pub NewtypesEnd : Schema → Type 0
+NewtypesEnd S = (i : ℕ) → ¬ Reaches (terminalsOf S) i i
+
+-- ## Within a size
+
+abbrev pub AtMost : ℕ → Option ℕ → Type 0
+AtMost n (some h) = n ≤ h
+AtMost n none = Unit {0}
+
+-- at least the smallest and, where there is one, at most the largest
+pub record Within (n : ℕ) (s : Size) : Type 0 where
+  pub notBelow : smallest s ≤ n
+  pub notAbove : AtMost n (largest s)
+
+-- the smallest is not above a largest that it has
+abbrev pub Ordered : Size → Type 0
+Ordered s = AtMost (smallest s) (largest s)
+
+-- ordered, and each length lies within
+pub record Encloses (P : ℕ → Type 0) (s : Size) : Type 0 where
+  pub ordered : Ordered s
+  pub within : (n : ℕ) → P n → Within n s
+
+-- the lengths of a slot's type
+abbrev pub SlotLength : Schema → ℕ → ℕ → Type 0
+SlotLength S i = Length S (leaf (named i))
+
+-- each stored size is ordered and encloses its type's lengths
+abbrev pub Trusted : Schema → State → Type 0
+Trusted S st = (i : ℕ) (s : Size) → st i ≡ some s → Encloses (SlotLength S i) s

@@ -1,0 +1,232 @@
+-- Sizes of types, of fields, and of messages and unions by their fields, where it is known what names come to.
+use Prim.Native.Nat.{ℕ, _+_, _-_, _*_, _^_, min, max}
+use mathlib.Core.Bool.{Bool, true, false, cond, _&&_, _||_}
+use mathlib.Core.List.{List, [], _∷_}
+use mathlib.Core.Option.{Option, none, some}
+use lib.ListN.{length, getD}
+use lib.Dec.{eqb, ltb}
+use Rattle.tree.specs.Tree.{Tree, Leaf, Wrap, leaf, wrap, fixedArray, pair, generic, primitive, subByte, semantic, named, bitsInline, qualified, optional, array, setOf, vec2, vec3, vec4, quat, mat3, mat4, mapOf, resultOf}
+use Rattle.tree.specs.Encoding.{Encoding, default, varint, zigZag, delta}
+use Rattle.slot.specs.Field.{Field}
+pub use Rattle.sizes.specs.declared.Size.{Size}
+pub use Rattle.sizes.specs.declared.Size.the-variants.{Fixed, Bounded, Open}
+pub use Rattle.sizes.specs.declared.Worked.{Worked}
+pub use Rattle.sizes.specs.declared.Worked.the-variants.{Sized, Over}
+
+-- ## A size: smallest, largest if any, and whether it is Fixed
+
+abbrev pub smallest : Size → ℕ
+smallest (Fixed b) = b
+smallest (Bounded l h) = l
+smallest (Open l) = l
+
+abbrev pub largest : Size → Option ℕ
+largest (Fixed b) = some b
+largest (Bounded l h) = some h
+largest (Open l) = none
+
+abbrev pub isFixed : Size → Bool
+isFixed (Fixed b) = true
+isFixed (Bounded l h) = false
+isFixed (Open l) = false
+
+-- a size that is not Fixed
+abbrev pub variable : (smallest : ℕ) → (largest : Option ℕ) → Size
+variable l (some h) = Bounded l h
+variable l none = Open l
+
+-- of two largest, if both exist
+abbrev pub both : (ℕ → ℕ → ℕ) → Option ℕ → Option ℕ → Option ℕ
+both f (some a) (some b) = some (f a b)
+both f (some a) none = none
+both f none b = none
+
+-- ## The limit
+
+abbrev pub limit : ℕ
+limit = 2 ^ 63 - 1
+
+abbrev pub passes : Size → Bool
+passes (Fixed b) = ltb limit b
+passes (Bounded l h) = ltb limit l || ltb limit h
+passes (Open l) = ltb limit l
+
+-- a size just made: none of its numbers may pass the limit
+unfoldable pub limited : Size → Worked
+limited s = cond (passes s) Over (Sized s)
+
+-- the sizes that are made by adding, and those that are made by multiplying
+abbrev pub limitedSum : Size → Worked
+limitedSum s = limited s
+
+abbrev pub limitedProduct : Size → Worked
+limitedProduct s = limited s
+
+-- what is made of a size that was worked out
+unfoldable pub then : Worked → (Size → Worked) → Worked
+then (Sized s) next = next s
+then Over next = Over
+
+-- ## Types without parts
+
+-- Bool, U8, U16, U32, U64, I8, I16, I32, I64, F32, F64, Fixed32, Fixed64, Void
+unfoldable pub primitiveBits : ℕ → ℕ
+primitiveBits p = getD (1 ∷ 8 ∷ 16 ∷ 32 ∷ 64 ∷ 8 ∷ 16 ∷ 32 ∷ 64 ∷ 32 ∷ 64 ∷ 32 ∷ 64 ∷ 0 ∷ []) p 0
+
+-- String, Bytes, Rgb, Uuid, Timestamp, Hash; the first two have no bits of their own
+unfoldable pub semanticBits : ℕ → Option ℕ
+semanticBits m = getD (none ∷ none ∷ some 24 ∷ some 128 ∷ some 64 ∷ some 256 ∷ []) m none
+
+-- Fixed at the bits, if there are any, else from 0 without largest
+abbrev pub fixedOrOpen : Option ℕ → Size
+fixedOrOpen (some b) = Fixed b
+fixedOrOpen none = Open 0
+
+-- what a name comes to
+abbrev pub Resolver : Type 0
+Resolver = ℕ → Worked
+
+-- no type holds a qualified name
+unfoldable pub leafSize : Resolver → Leaf → Worked
+leafSize r (primitive p) = Sized (Fixed (primitiveBits p))
+leafSize r (subByte g b) = Sized (Fixed b)
+leafSize r (semantic m) = Sized (fixedOrOpen (semanticBits m))
+leafSize r (named i) = r i
+leafSize r (bitsInline ns) = Sized (Fixed (length ns))
+leafSize r (qualified n) = Sized (Open 0)
+
+-- ## Types with parts
+
+-- 1 up to 1 + largest, if any
+abbrev pub optionalSize : Size → Size
+optionalSize s = variable 1 (both _+_ (some 1) (largest s))
+
+-- so many times: vectors, quaternions and matrices
+abbrev pub multiplied : (count : ℕ) → Size → Size
+multiplied k (Fixed b) = Fixed (b * k)
+multiplied k (Bounded l h) = Bounded (l * k) (h * k)
+multiplied k (Open l) = Open (l * k)
+
+-- a Fixed size as it is, another from its smallest without largest: what a fixed array multiplies
+abbrev pub withoutLargest : Size → Size
+withoutLargest (Fixed b) = Fixed b
+withoutLargest (Bounded l h) = Open l
+withoutLargest (Open l) = Open l
+
+-- the lesser smallest up to the greater largest, if both exist
+abbrev pub widened : Size → Size → Size
+widened s s′ = variable (min (smallest s) (smallest s′)) (both max (largest s) (largest s′))
+
+-- so many bits more; never Fixed
+abbrev pub raised : (bits : ℕ) → Size → Size
+raised n s = variable (n + smallest s) (both _+_ (some n) (largest s))
+
+-- how many values of its child's type a kind with one child holds
+pub data Count : Type 0 where
+  -- Optional
+  atMostOne : Count
+  -- Array, Set
+  anyNumber : Count
+  -- vectors, quaternions and matrices
+  exactly : ℕ → Count
+
+abbrev pub countOf : Wrap → Count
+countOf optional = atMostOne
+countOf array = anyNumber
+countOf setOf = anyNumber
+countOf vec2 = exactly 2
+countOf vec3 = exactly 3
+countOf vec4 = exactly 4
+countOf quat = exactly 4
+countOf mat3 = exactly 9
+countOf mat4 = exactly 16
+
+unfoldable pub wrapSize : Count → (child : Worked) → Worked
+wrapSize atMostOne child = then child (λ s. limitedSum (optionalSize s))
+wrapSize anyNumber child = Sized (Open 8)
+wrapSize (exactly k) child = then child (λ s. limitedProduct (multiplied k s))
+
+-- no type holds a generic
+unfoldable pub typeSize : Resolver → Tree → Worked
+typeSize r (leaf l) = leafSize r l
+typeSize r (wrap w t) = wrapSize (countOf w) (typeSize r t)
+typeSize r (fixedArray t k) = then (typeSize r t) (λ s. limitedProduct (multiplied k (withoutLargest s)))
+typeSize r (pair mapOf t u) = Sized (Open 8)
+typeSize r (pair resultOf t u) = then (typeSize r t) (λ s. then (typeSize r u) (λ s′. limitedSum (raised 1 (widened s s′))))
+typeSize r (generic n t) = Sized (Open 0)
+
+-- ## Fields
+
+-- what a list says of a primitive type, and 80 of any other
+abbrev pub leafSpan : List ℕ → Leaf → ℕ
+leafSpan ends (primitive p) = getD ends p 80
+leafSpan ends (subByte g b) = 80
+leafSpan ends (semantic m) = 80
+leafSpan ends (named i) = 80
+leafSpan ends (bitsInline ns) = 80
+leafSpan ends (qualified n) = 80
+
+abbrev pub spanEnd : List ℕ → Tree → ℕ
+spanEnd ends (leaf l) = leafSpan ends l
+spanEnd ends (wrap w t) = 80
+spanEnd ends (fixedArray t k) = 80
+spanEnd ends (pair p t u) = 80
+spanEnd ends (generic n t) = 80
+
+-- Varint reaches from 8 to 24, 40 or 80 on U16, U32, U64, else to 80
+unfoldable pub varintEnd : Tree → ℕ
+varintEnd t = spanEnd (80 ∷ 80 ∷ 24 ∷ 40 ∷ 80 ∷ []) t
+
+-- ZigZag likewise on I16, I32, I64
+unfoldable pub zigZagEnd : Tree → ℕ
+zigZagEnd t = spanEnd (80 ∷ 80 ∷ 80 ∷ 80 ∷ 80 ∷ 80 ∷ 24 ∷ 40 ∷ 80 ∷ []) t
+
+-- Delta counts as its inner encoding
+unfoldable pub encodedSize : Resolver → Encoding → Tree → Worked
+encodedSize r default t = typeSize r t
+encodedSize r varint t = Sized (Bounded 8 (varintEnd t))
+encodedSize r zigZag t = Sized (Bounded 8 (zigZagEnd t))
+encodedSize r (delta e) t = encodedSize r e t
+
+-- a field's size, as it is added
+unfoldable pub fieldSize : Resolver → Field → Worked
+fieldSize r f = encodedSize r (f .encoding) (f .type)
+
+-- ## Messages
+
+-- Fixed, or variable
+abbrev pub marked : (fixed : Bool) → (smallest : ℕ) → (largest : Option ℕ) → Size
+marked true l h = Fixed l
+marked false l h = variable l h
+
+-- sums, Fixed if both are, without largest where one has none
+abbrev pub added : Size → Size → Size
+added s s′ = marked (isFixed s && isFixed s′) (smallest s + smallest s′) (both _+_ (largest s) (largest s′))
+
+-- the running total, and the fields that are still to be added
+unfoldable pub addFields : Resolver → (total : Size) → List Field → Worked
+addFields r total [] = Sized total
+addFields r total (f ∷ fs) =
+    then (fieldSize r f) (λ s. then (limitedSum (added total s)) (λ total′. addFields r total′ fs))
+
+-- a message's fields, or a variant's
+abbrev pub fieldsSize : Resolver → List Field → Worked
+fieldsSize r fs = addFields r (Fixed 0) fs
+
+-- ## Unions
+
+abbrev pub mark : ℕ
+mark = 2 ^ 64 - 1
+
+-- a smallest that is still the mark becomes 0
+abbrev pub unmarked : Size → Size
+unmarked s = variable (cond (eqb (smallest s) mark) 0 (smallest s)) (largest s)
+
+-- the extremes so far, and the variants that are still to be looked at
+unfoldable pub addVariants : Resolver → (extremes : Size) → List (List Field) → Worked
+addVariants r extremes [] = Sized extremes
+addVariants r extremes (v ∷ vs) = then (fieldsSize r v) (λ s. addVariants r (widened extremes s) vs)
+
+-- 8 plus the extremes over variants
+unfoldable pub unionSize : Resolver → List (List Field) → Worked
+unionSize r vs = then (addVariants r (Bounded mark 0) vs) (λ s. limitedSum (raised 8 (unmarked s)))
