@@ -1,0 +1,16 @@
+-- A slot's part of the image: its kind, and where what the kind holds stands.
+use Prim.Native.Nat.{ℕ}
+use mathlib.Core.List.{List}
+use mathlib.Core.Bool.{cond}
+use lib.ListN.{length, getD}
+use lib.Dec.{ltb}
+use Rattle.number.specs.Grammar.{Outcome, done, refused, below}
+use Rattle.view.specs.declared.Part.{Part}
+
+abbrev pub partOf : Outcome ℕ → Part
+partOf (done kind body) = Part.At kind body
+partOf (refused r p) = Part.Missing
+
+-- by the table of where the slots start; missing past the table, or where no kind is read
+unfoldable pub partAt : (s starts : List ℕ) → (slot : ℕ) → Part
+partAt s starts k = cond (ltb k (length starts)) (partOf (below 10 s (getD starts k 0))) Part.Missing
