@@ -13,15 +13,12 @@ use borrow.Author.Tests.{lt-ltb, le-ltb, ltb-false}
 use Rattle.number.specs.Grammar.{slot, count, give, _>>=_, number, here, many, Outcome, done, refused, andThen, below, read}
 use Rattle.number.specs.Answers.{next}
 use Rattle.number.specs.declared.Next.{Next}
-use Rattle.number.proofs.Reading.{read-bind, read-number, read-done, then-on, then-stop, then-done, number-on, number-refused, next-at, next-refused, given}
+use Rattle.number.proofs.Reading.{read-bind, read-number, read-done, then-on, then-stop, then-done, number-on, number-refused, next-at, next-refused, not-done, given}
 use Rattle.number.proofs.InRange.{below-is}
 use Rattle.image.specs.Image.{Front, frontWith, frontAt, Placed, placedAt, Declared, declaredAt, Image, endAt, imageAt, whole, imageOf, startsOf, frameIn, framed, fronted, ended}
 use Rattle.image.specs.declared.Framed.{Framed}
 use Rattle.image.specs.declared.Fronted.{Fronted}
 use Rattle.image.specs.declared.Ended.{Ended}
-
-no-both : {A : Type 0} {o : Outcome A} {r q n : ℕ} {a : A} → o ≡ refused r q → o ≡ done a n → ⊥
-no-both e f = let z : _≡_ {A = ℕ} 0 1 = cc in omega arith
 
 module _ (s : List ℕ) where
   after-names : (n p : ℕ) → below 4097 s 0 ≡ done n p
@@ -156,7 +153,7 @@ module _ (s : List ℕ) where
   -- a refusal says nothing of the table
   refusal : (r q : ℕ) → imageOf s ≡ refused r q → (l l′ : List ℕ)
       → (Framed.Refused r q ≡ framed (imageOf s)) × ((i : Image) (n : ℕ) → imageOf s ≡ done i n → l′ ≡ sets l 0 (startsOf (i .slots)))
-  refusal r q e l l′ = (sym (ap framed e), λ i n h. absurd (no-both e h))
+  refusal r q e l l′ = (sym (ap framed e), λ i n h. absurd (not-done e h))
 
   too-big : 65536 < length s → imageOf s ≡ refused 1 0
   unfolding imageOf
@@ -245,7 +242,7 @@ pub record Accepted (s : List ℕ) (i : Image) (end : ℕ) : Type 0 where
   pub last : length s ≤ end
 
 pub accepted : (s : List ℕ) (i : Image) (n : ℕ) → imageOf s ≡ done i n → Accepted s i n
-accepted s i n e = by-cases (decLt 65536 (length s)) (λ h. absurd (no-both (too-big s h) e)) (λ h. within (omega arith))
+accepted s i n e = by-cases (decLt 65536 (length s)) (λ h. absurd (not-done (too-big s h) e)) (λ h. within (omega arith))
   where
     within : length s ≤ 65536 → Accepted s i n
     within h =

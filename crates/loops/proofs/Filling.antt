@@ -7,7 +7,7 @@ use native.Mathlib.Omega.{arith}
 use native.Mathlib.Decide.{decLt}
 use borrow.Author.Tests.{lt-ltb}
 use lib.ListN.{length, getD, replicate}
-use Rattle.number.specs.Grammar.{kind, name, Grammar, give, _>>=_, number, counted, Outcome, done, refused, read}
+use Rattle.number.specs.Grammar.{kind, name, Grammar, give, _>>=_, number, counted, Outcome, done, read}
 use Rattle.number.specs.Answers.{next}
 use Rattle.number.proofs.Reading.{number-on, read-done, given}
 use Rattle.tree.specs.Tree.{Tree}
@@ -26,9 +26,6 @@ use Rattle.loops.specs.Marks.{leadKind, Leading, TreeStart, placeOf, Tre
 use Rattle.loops.specs.Refusals.{slots-past, is-not-looped}
 use Rattle.loops.specs.declared.Body.{Body}
 use Rattle.loops.proofs.Marking.{led-none, led-as, ends}
-
-pub not-done : {A : Type 0} {m : Outcome A} {r p : ℕ} {a : A} {n : ℕ} → m ≡ refused r p → m ≡ done a n → ⊥
-not-done e f = let z : _≡_ {A = ℕ} 0 1 = cc in omega arith
 
 pub done-as : {A : Type 0} {m : Outcome A} {a b : A} {n k : ℕ} → m ≡ done a n → a ≡ b → n ≡ k → m ≡ done b k
 done-as e f g = rw (← f, ← g) e

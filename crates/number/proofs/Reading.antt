@@ -60,6 +60,10 @@ then-stop m f e = rw e
 pub given : {A : Type 0} {a b : A} {at end : ℕ} → done a at ≡ done b end → (a ≡ b) × (at ≡ end)
 given e = (cc, cc)
 
+-- what was read was not refused
+pub not-done : {A : Type 0} {m : Outcome A} {r p : ℕ} {a : A} {n : ℕ} → m ≡ refused r p → m ≡ done a n → ⊥
+not-done e f = let z : _≡_ {A = ℕ} 0 1 = cc in omega arith
+
 -- reading a sequence is reading its first part, and then what follows
 pub read-bind : {A B : Type 0} (g : Grammar A) (f : A → Grammar B) (s : List ℕ) (at : ℕ)
     → read (_>>=_ g f) s at ≡ andThen (read g s at) (λ a n. read (f a) s n)

@@ -7,8 +7,8 @@ use native.Mathlib.Omega.{arith}
 use lib.Dec.{eqb}
 use lib.ListN.{getD}
 use borrow.Author.Tests.{lt-ltb}
-use Rattle.number.specs.Grammar.{slot, number, many, Outcome, done, refused, below, read}
-use Rattle.number.proofs.Reading.{given, read-number, front, many-length}
+use Rattle.number.specs.Grammar.{slot, number, many, done, refused, below, read}
+use Rattle.number.proofs.Reading.{not-done, given, read-number, front, many-length}
 use Rattle.slot.specs.Slot.{Slot, empty, message, enum, flags, union, newtype, config, alias, trait, impl, slotKind, slotAt}
 use Rattle.slot.proofs.Whole.{slot-parts}
 use Rattle.graph.specs.Ways.{lowest}
@@ -60,10 +60,7 @@ module _ (names count : ℕ) (s starts : List ℕ) (l : Located names count s st
       lost-refused r q e =
           let x = l .reads (find - 1) k in
           let p = slot-parts s names (getD starts (find - 1) 0) (x .0) (x .1) (x .2) in
-          absurd (clash (p .kindRead) e)
-        where
-          clash : {o : Outcome ℕ} {a n : ℕ} → o ≡ done a n → o ≡ refused r q → ⊥
-          clash u v = let z : _≡_ {A = ℕ} 0 1 = cc in omega arith
+          absurd (not-done e (p .kindRead))
 
 -- the names from number n on, which are still to be looked at
 module _ (names : ℕ) (s : List ℕ) (at : ℕ) (slots : ℕ → Slot) where
@@ -124,10 +121,7 @@ module _ (names : ℕ) (s : List ℕ) (at : ℕ) (slots : ℕ → Slot) where
       pub stop-turn : (r q : ℕ) → below 513 s p ≡ refused r q → (x : Lowest) (fs : List ℕ) (m : ℕ) → read (many names (number slot 513)) s at ≡ done fs m → x ≡ lostName fs slots
       stop-turn r q e x fs m f =
           let g = t .left fs m f in
-          absurd (clash (first-of fs (g .0) m (g .1) .reads) e)
-        where
-          clash : {o : Outcome ℕ} {a k : ℕ} → o ≡ done a k → o ≡ refused r q → ⊥
-          clash u v = let z : _≡_ {A = ℕ} 0 1 = cc in omega arith
+          absurd (not-done e (first-of fs (g .0) m (g .1) .reads))
 
       module _ (v k : ℕ) (e : below 513 s p ≡ done v k) where
         pub found-turn : (b : Bool) → b ≡ lost slots v → b ≡ true → (fs : List ℕ) (m : ℕ) → read (many names (number slot 513)) s at ≡ done fs m → Lowest.At n ≡ lostName fs slots

@@ -78,7 +78,7 @@ module _ (S : Schema) (st : State) where
   row-says (some (Bounded l h)) = refl
   row-says (some (Open l)) = refl
 
-  sizable-row : (i : ℕ) {x : Slot} → Sizable x → slotRow S st i x ≡ sizeRow (st i)
+  pub sizable-row : (i : ℕ) {x : Slot} → Sizable x → slotRow S st i x ≡ sizeRow (st i)
   unfolding slotRow
   sizable-row i isMessage = refl
   sizable-row i isUnion = refl

@@ -1,7 +1,8 @@
 -- The slot's kind is read, and compared. Assumes nothing.
 use mathlib.Core.Path.{refl, sym, _∙_}
 use Rattle.number.proofs.Reading.{told, given}
-use Rattle.loops.proofs.Filling.{not-done, done-as}
+use Rattle.number.proofs.Reading.{not-done}
+use Rattle.loops.proofs.Filling.{done-as}
 use borrow.Author.Needs.{needs}
 use Rattle.loops.proofs.body_of.Statement.{statement}
 use Rattle.loops.proofs.body_of.Tie as tie

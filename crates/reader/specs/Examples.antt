@@ -1,0 +1,68 @@
+-- Worked examples of reading: images of document 01, and what each is answered.
+use Prim.Native.Nat.{ℕ}
+use mathlib.Core.Path.{_≡_, refl}
+use mathlib.Core.List.{List, [], _∷_, map}
+use Rattle.number.specs.Number.{numberAt, groupsAt, after}
+use Rattle.number.specs.Grammar.{_>>=_, many, counted, tooDeep, nested, andThen, ranged, below, read}
+use Rattle.tree.specs.Tree.{leaf, named, primitive}
+use Rattle.tree.specs.TreeAt.{subByteAt, bitsAt, genericAt, bodyAt, headAt, fill, treeAt}
+use Rattle.tree.specs.Encoding.{default, varint, encodingFill, encodingAt}
+use Rattle.slot.specs.Field.{none, spanAt, storedAt, fieldAt}
+use Rattle.slot.specs.Slot.{enum, message, messageAt, ordinalsAt, enumAt, newtypeAt, aliasAt, slotBodyAt, slotAt}
+use Rattle.graph.specs.Ways.{via, lowest, has}
+use Rattle.image.specs.Schema.{Schema, slotOf}
+use Rattle.image.specs.Image.{frontAt, placedAt, declaredAt, endAt, imageAt, whole, imageOf, schemaIn, frameIn}
+use Rattle.loops.specs.Leads.{terminalSlots, genericSlots, slotLeads, leads, loopOf}
+use Rattle.reader.specs.Reading.{lost, lostName, judged, readingOf, schemaOf}
+use Rattle.reader.specs.declared.Reading.{Reading}
+
+-- an image, and what reading it answers
+pub record Line : Type 0 where
+  pub image : List ℕ
+  pub answer : Reading
+
+-- the image of the program's example: an enum and a message
+abbrev pub shown : List ℕ
+shown = 1 ∷ 0 ∷ 2 ∷ 2 ∷ 0 ∷ 0 ∷ 0 ∷ 2 ∷ 0 ∷ 4 ∷ 1 ∷ 5 ∷ 7 ∷ 0 ∷ 2 ∷ 0 ∷ 0 ∷ 3 ∷ 0 ∷ 0 ∷ 1 ∷ 0 ∷ 3 ∷ 2 ∷ 0 ∷ 1 ∷ []
+
+abbrev pub lines : List Line
+lines =
+    record { image = shown; answer = Reading.Accepted (record { names = 1; finds = 1; slots = 2; declarations = 2; declared = 24 }) }
+    -- nothing at all, and no bytes
+    ∷ record { image = 0 ∷ 0 ∷ 0 ∷ []; answer = Reading.Accepted (record { names = 0; finds = 1; slots = 0; declarations = 0; declared = 3 }) }
+    ∷ record { image = []; answer = Reading.Refused 2 0 }
+    -- not shortest; out of range; extra bytes
+    ∷ record { image = 128 ∷ 0 ∷ []; answer = Reading.Refused 3 0 }
+    ∷ record { image = 0 ∷ 129 ∷ 4 ∷ []; answer = Reading.Refused 4 1 }
+    ∷ record { image = 0 ∷ 0 ∷ 0 ∷ 0 ∷ []; answer = Reading.Refused 6 3 }
+    -- a name that finds an empty slot
+    ∷ record { image = 1 ∷ 1 ∷ 1 ∷ 0 ∷ 0 ∷ []; answer = Reading.Refused 7 0 }
+    -- a newtype of itself; an alias whose target is a generic of it
+    ∷ record { image = 0 ∷ 1 ∷ 5 ∷ 0 ∷ 0 ∷ 3 ∷ 0 ∷ 0 ∷ []; answer = Reading.Refused 8 0 }
+    ∷ record { image = 1 ∷ 1 ∷ 1 ∷ 7 ∷ 0 ∷ 18 ∷ 0 ∷ 0 ∷ 0 ∷ 0 ∷ []; answer = Reading.Refused 9 0 }
+    ∷ []
+
+pub lines-hold : map (λ l. readingOf (l .image)) lines ≡ map (λ l. l .answer) lines
+unfolding numberAt groupsAt after _>>=_ many counted tooDeep nested andThen ranged below read subByteAt bitsAt genericAt bodyAt headAt fill treeAt encodingFill encodingAt spanAt storedAt fieldAt messageAt ordinalsAt enumAt newtypeAt aliasAt slotBodyAt slotAt via lowest has slotOf frontAt placedAt declaredAt endAt imageAt whole imageOf schemaIn frameIn terminalSlots genericSlots slotLeads leads loopOf lost lostName judged readingOf
+lines-hold = refl
+
+-- what the example's image holds
+pub shown-is : schemaOf shown
+    ≡ record {
+      finds = 0 ∷ [];
+      slots =
+          enum (record { backing = 0; nonExhaustive = 0; storedBits = 0; ordinals = record { live = 0 ∷ 4 ∷ [] } })
+          ∷ message
+          (record {
+            span = record { offset = 5; length = 7 };
+            stored = none;
+            fields =
+                record { fieldName = 0; encoding = default; type = leaf (named 0) }
+                ∷ record { fieldName = 0; encoding = varint; type = leaf (primitive 3) }
+                ∷ [];
+          })
+          ∷ [];
+      declared = 0 ∷ 1 ∷ [];
+    }
+unfolding numberAt groupsAt after _>>=_ many counted tooDeep nested andThen ranged below read subByteAt bitsAt genericAt bodyAt headAt fill treeAt encodingFill encodingAt spanAt storedAt fieldAt messageAt ordinalsAt enumAt slotBodyAt slotAt frontAt placedAt declaredAt endAt imageAt whole imageOf schemaIn schemaOf
+shown-is = refl

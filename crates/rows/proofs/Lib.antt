@@ -1,0 +1,5 @@
+pub mod Table
+pub mod Taking
+pub mod Marking
+pub mod Widths
+pub mod Slots

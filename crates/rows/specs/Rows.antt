@@ -1,0 +1,45 @@
+-- What the code that fills the size table says of its steps.
+use Prim.Native.Nat.{ℕ, _*_, _≤_, _<_}
+use mathlib.Core.Path.{_≡_}
+use mathlib.Core.List.{List}
+use mathlib.Core.Bool.{Bool, false, _||_}
+use lib.ListN.{length, getD}
+use Rattle.number.specs.Grammar.{done, below}
+use Rattle.graph.specs.Ways.{has}
+use Rattle.image.specs.Schema.{slotOf}
+use Rattle.image.specs.declared.Frame.{Frame}
+use Rattle.reader.specs.Reading.{schemaOf}
+use Rattle.reader.specs.Promise.{Promise}
+use Rattle.sizes.specs.Check.{row, slotRow, brought}
+use Rattle.rows.specs.declared.Row.{Row}
+
+abbrev pub numbers : Row → List ℕ
+numbers r = row (r .kind) (r .a) (r .b)
+
+-- a number and the position after it, where one below some limit stands
+abbrev pub Takes : List ℕ → (at value next : ℕ) → Type 0
+Takes s at v n = (limit w m : ℕ) → below limit s at ≡ done w m → (v ≡ w) × (n ≡ m)
+
+-- a table of marks, and the same with the slots of a list marked
+abbrev pub Marked : (before : List Bool) → (slots : List ℕ) → (after : List Bool) → Type 0
+Marked before ds after = (i : ℕ) → i < length before → getD after i false ≡ (getD before i false || has i ds)
+
+-- what the image brings for slot i, and its width, computed if the slot is declared
+abbrev pub RowIs : (s starts : List ℕ) → (i : ℕ) → (declared : Bool) → Row → Type 0
+RowIs s starts i declared r =
+    (f : Frame) → Promise s starts f → i < f .slots → declared ≡ has i (schemaOf s .declared)
+    → numbers r ≡ slotRow (schemaOf s) (brought (schemaOf s)) i (slotOf (schemaOf s) i)
+
+-- an accepted image of `count` slots, of which those declared are marked, and a size table with three places a slot
+pub record Known (s starts : List ℕ) (count : ℕ) (marks : List Bool) (rows : List ℕ) : Type 0 where
+  pub frame : Frame
+  pub promise : Promise s starts frame
+  pub slots : frame .slots ≡ count
+  pub room : count ≤ length marks
+  pub places : 3 * count ≤ length rows
+  pub declared : (i : ℕ) → i < count → getD marks i false ≡ has i (schemaOf s .declared)
+
+-- an accepted image, and a size table with three places a slot
+pub record Ready (s starts : List ℕ) (f : Frame) (rows : List ℕ) : Type 0 where
+  pub promise : Promise s starts f
+  pub places : 3 * f .slots ≤ length rows
