@@ -1,0 +1,341 @@
+// Sizes made of sizes, by value. A number that passes the limit 2^63 - 1 is cut to 2^63, which passes it as well.
+use sizes::Size;
+use sizes::Worked;
+ghost use mathlib.Core.Path.{_≡_};
+ghost use Prim.Native.Nat.{_+_, _*_, _^_, min, max};
+ghost use Rattle.tree.specs.Tree.{Tree, Leaf, Wrap, leafKind, leafNumber, wrapKind};
+ghost use Rattle.sizes.specs.Sizes.{smallest, largest, variable, both, limited, then, limitedSum, limitedProduct, Resolver, leafSize, countOf, wrapSize, primitiveBits, semanticBits, fixedOrOpen, optionalSize, multiplied, withoutLargest, widened, raised, added, unmarked, varintEnd, zigZagEnd};
+ghost use Rattle.measures.specs.Cut.{cutSum, highOf};
+ghost use Rattle.measures.specs.Heads.{kindOf, numberOf};
+
+// A largest, if there is one.
+pub enum Bound {
+    Most(u64),
+    None,
+}
+
+// The sum, cut.
+fn sum(x: u64, y: u64) -> u64
+    ensures { λ r. ⌜ r ≡ min (x + y) (2 ^ 63) ⌝ }
+{
+    if x > 9223372036854775807 {
+        9223372036854775808
+    } else if y > 9223372036854775807 - x {
+        9223372036854775808
+    } else {
+        x + y
+    }
+}
+
+// The product, cut.
+fn product(x: u64, count: u64) -> u64
+    ensures { λ r. ⌜ r ≡ min (x * count) (2 ^ 63) ⌝ }
+{
+    if count == 0 {
+        0
+    } else if x > 9223372036854775807 / count {
+        9223372036854775808
+    } else {
+        x * count
+    }
+}
+
+fn lesser(x: u64, y: u64) -> u64
+    ensures { λ r. ⌜ r ≡ min x y ⌝ }
+{
+    if x <= y { x } else { y }
+}
+
+fn greater(x: u64, y: u64) -> u64
+    ensures { λ r. ⌜ r ≡ max x y ⌝ }
+{
+    if x <= y { y } else { x }
+}
+
+pub fn wire_size_min_bits(size: Size) -> u64
+    ensures { λ r. ⌜ r ≡ smallest size ⌝ }
+{
+    match size {
+        Size::Fixed(b) => b,
+        Size::Bounded(l, _) => l,
+        Size::Open(l) => l,
+    }
+}
+
+pub fn wire_size_max_bits(size: Size) -> Bound
+    ensures { λ r. ⌜ highOf r ≡ largest size ⌝ }
+{
+    match size {
+        Size::Fixed(b) => Bound::Most(b),
+        Size::Bounded(_, h) => Bound::Most(h),
+        Size::Open(_) => Bound::None,
+    }
+}
+
+// A size that is not Fixed.
+fn vary(low: u64, high: Bound) -> Size
+    ensures { λ r. ⌜ r ≡ variable low (highOf high) ⌝ }
+{
+    match high {
+        Bound::Most(h) => Size::Bounded(low, h),
+        Bound::None => Size::Open(low),
+    }
+}
+
+// The sum of two largest, if both exist.
+fn sum_bounds(a: Bound, b: Bound) -> Bound
+    ensures { λ r. ⌜ highOf r ≡ both cutSum (highOf a) (highOf b) ⌝ }
+{
+    match a {
+        Bound::Most(x) => match b {
+            Bound::Most(y) => Bound::Most(sum(x, y)),
+            Bound::None => Bound::None,
+        },
+        Bound::None => Bound::None,
+    }
+}
+
+// The greater of two largest, if both exist.
+fn greater_bound(a: Bound, b: Bound) -> Bound
+    ensures { λ r. ⌜ highOf r ≡ both max (highOf a) (highOf b) ⌝ }
+{
+    match a {
+        Bound::Most(x) => match b {
+            Bound::Most(y) => Bound::Most(greater(x, y)),
+            Bound::None => Bound::None,
+        },
+        Bound::None => Bound::None,
+    }
+}
+
+// The size, unless a number of it passes the limit.
+fn within_limit(size: Size) -> Worked
+    ensures { λ r. ⌜ r ≡ limited size ⌝ }
+{
+    match size {
+        Size::Fixed(b) => {
+            if b > 9223372036854775807 {
+                Worked::Over
+            } else {
+                Worked::Sized(size)
+            }
+        }
+        Size::Bounded(l, h) => {
+            if l > 9223372036854775807 {
+                Worked::Over
+            } else if h > 9223372036854775807 {
+                Worked::Over
+            } else {
+                Worked::Sized(size)
+            }
+        }
+        Size::Open(l) => {
+            if l > 9223372036854775807 {
+                Worked::Over
+            } else {
+                Worked::Sized(size)
+            }
+        }
+    }
+}
+
+pub fn primitive_wire_size(p: u64) -> Size
+    ensures { λ r. ⌜ r ≡ Size.Fixed (primitiveBits p) ⌝ }
+{
+    match p {
+        0 => Size::Fixed(1),
+        1 => Size::Fixed(8),
+        2 => Size::Fixed(16),
+        3 => Size::Fixed(32),
+        4 => Size::Fixed(64),
+        5 => Size::Fixed(8),
+        6 => Size::Fixed(16),
+        7 => Size::Fixed(32),
+        8 => Size::Fixed(64),
+        9 => Size::Fixed(32),
+        10 => Size::Fixed(64),
+        11 => Size::Fixed(32),
+        12 => Size::Fixed(64),
+        _ => Size::Fixed(0),
+    }
+}
+
+pub fn semantic_wire_size(m: u64) -> Size
+    ensures { λ r. ⌜ r ≡ fixedOrOpen (semanticBits m) ⌝ }
+{
+    match m {
+        2 => Size::Fixed(24),
+        3 => Size::Fixed(128),
+        4 => Size::Fixed(64),
+        5 => Size::Fixed(256),
+        _ => Size::Open(0),
+    }
+}
+
+// A type without children, names aside, by its kind and its number.
+pub fn leaf_wire_size(kind: u64, number: u64) -> Size
+    ensures { λ r. ⌜ ((names : Resolver) (l : Leaf) → leafKind l ≡ kind → leafNumber l ≡ number → (kind ≡ 3 → ⊥) → Worked.Sized r ≡ leafSize names l) ⌝ }
+{
+    match kind {
+        0 => primitive_wire_size(number),
+        1 => Size::Fixed(number),
+        2 => semantic_wire_size(number),
+        16 => Size::Fixed(number),
+        _ => Size::Open(0),
+    }
+}
+
+// Varint, by the kind and the number of a type's head.
+pub fn varint_wire_size(kind: u64, number: u64) -> Size
+    ensures { λ r. ⌜ ((t : Tree) → kindOf t ≡ kind → numberOf t ≡ number → r ≡ Size.Bounded 8 (varintEnd t)) ⌝ }
+{
+    if kind != 0 {
+        return Size::Bounded(8, 80);
+    }
+    match number {
+        2 => Size::Bounded(8, 24),
+        3 => Size::Bounded(8, 40),
+        _ => Size::Bounded(8, 80),
+    }
+}
+
+// ZigZag likewise.
+pub fn zigzag_wire_size(kind: u64, number: u64) -> Size
+    ensures { λ r. ⌜ ((t : Tree) → kindOf t ≡ kind → numberOf t ≡ number → r ≡ Size.Bounded 8 (zigZagEnd t)) ⌝ }
+{
+    if kind != 0 {
+        return Size::Bounded(8, 80);
+    }
+    match number {
+        6 => Size::Bounded(8, 24),
+        7 => Size::Bounded(8, 40),
+        _ => Size::Bounded(8, 80),
+    }
+}
+
+pub fn multiply_wire_size(size: Size, count: u64) -> Worked
+    ensures { λ r. ⌜ r ≡ limitedProduct (multiplied count size) ⌝ }
+{
+    match size {
+        Size::Fixed(b) => within_limit(Size::Fixed(product(b, count))),
+        Size::Bounded(l, h) => within_limit(Size::Bounded(product(l, count), product(h, count))),
+        Size::Open(l) => within_limit(Size::Open(product(l, count))),
+    }
+}
+
+// A kind with one child, Array and Set aside.
+pub fn wrap_wire_size(kind: u64, child: Size) -> Worked
+    ensures { λ r. ⌜ ((w : Wrap) → wrapKind w ≡ kind → (kind ≡ 5 → ⊥) → (kind ≡ 7 → ⊥) → r ≡ wrapSize (countOf w) (Worked.Sized child)) ⌝ }
+{
+    match kind {
+        4 => optional_wire_size(child),
+        10 => multiply_wire_size(child, 2),
+        11 => multiply_wire_size(child, 3),
+        12 => multiply_wire_size(child, 4),
+        13 => multiply_wire_size(child, 4),
+        14 => multiply_wire_size(child, 9),
+        _ => multiply_wire_size(child, 16),
+    }
+}
+
+// A Fixed size as it is, another from its smallest.
+fn drop_largest(size: Size) -> Size
+    ensures { λ r. ⌜ r ≡ withoutLargest size ⌝ }
+{
+    match size {
+        Size::Fixed(b) => Size::Fixed(b),
+        Size::Bounded(l, _) => Size::Open(l),
+        Size::Open(l) => Size::Open(l),
+    }
+}
+
+pub fn fixed_array_wire_size(size: Size, count: u64) -> Worked
+    ensures { λ r. ⌜ r ≡ limitedProduct (multiplied count (withoutLargest size)) ⌝ }
+{
+    multiply_wire_size(drop_largest(size), count)
+}
+
+pub fn optional_wire_size(size: Size) -> Worked
+    ensures { λ r. ⌜ r ≡ limitedSum (optionalSize size) ⌝ }
+{
+    within_limit(vary(1, sum_bounds(Bound::Most(1), wire_size_max_bits(size))))
+}
+
+// The lesser smallest up to the greater largest, if both exist.
+pub fn widen(a: Size, b: Size) -> Size
+    ensures { λ r. ⌜ r ≡ widened a b ⌝ }
+{
+    vary(
+        lesser(wire_size_min_bits(a), wire_size_min_bits(b)),
+        greater_bound(wire_size_max_bits(a), wire_size_max_bits(b)),
+    )
+}
+
+// So many bits more.
+fn raise(bits: u64, size: Size) -> Worked
+    ensures { λ r. ⌜ r ≡ limitedSum (raised bits size) ⌝ }
+{
+    within_limit(vary(
+        sum(bits, wire_size_min_bits(size)),
+        sum_bounds(Bound::Most(bits), wire_size_max_bits(size)),
+    ))
+}
+
+pub fn result_wire_size(ok: Size, err: Size) -> Worked
+    ensures { λ r. ⌜ r ≡ limitedSum (raised 1 (widened ok err)) ⌝ }
+{
+    raise(1, widen(ok, err))
+}
+
+// Where the smallest is still the mark, it becomes 0.
+fn unmark(extremes: Size) -> Size
+    ensures { λ r. ⌜ r ≡ unmarked extremes ⌝ }
+{
+    let low = wire_size_min_bits(extremes);
+    if low == 18446744073709551615 {
+        vary(0, wire_size_max_bits(extremes))
+    } else {
+        vary(low, wire_size_max_bits(extremes))
+    }
+}
+
+// A union's size, from the extremes over its variants.
+pub fn tag(extremes: Size) -> Worked
+    ensures { λ r. ⌜ r ≡ limitedSum (raised 8 (unmarked extremes)) ⌝ }
+{
+    raise(8, unmark(extremes))
+}
+
+fn vary_sum(a: Size, b: Size) -> Worked
+    ensures { λ r. ⌜ r ≡ limitedSum (variable (smallest a + smallest b) (both _+_ (largest a) (largest b))) ⌝ }
+{
+    within_limit(vary(
+        sum(wire_size_min_bits(a), wire_size_min_bits(b)),
+        sum_bounds(wire_size_max_bits(a), wire_size_max_bits(b)),
+    ))
+}
+
+// A running total with a field's size.
+pub fn add(total: Size, size: Size) -> Worked
+    ensures { λ r. ⌜ r ≡ limitedSum (added total size) ⌝ }
+{
+    match total {
+        Size::Fixed(x) => match size {
+            Size::Fixed(y) => within_limit(Size::Fixed(sum(x, y))),
+            Size::Bounded(l, h) => vary_sum(total, size),
+            Size::Open(l) => vary_sum(total, size),
+        },
+        Size::Bounded(l, h) => vary_sum(total, size),
+        Size::Open(l) => vary_sum(total, size),
+    }
+}
+
+// The same with a field that was worked out.
+pub fn add_field(total: Size, field: Worked) -> Worked
+    ensures { λ r. ⌜ r ≡ then field (λ s. limitedSum (added total s)) ⌝ }
+{
+    match field {
+        Worked::Sized(size) => add(total, size),
+        Worked::Over => Worked::Over,
+    }
+}

@@ -1,0 +1,66 @@
+-- From an image and the places of a size table to the answer and the table. Refusals 10 and 11.
+use Prim.Native.Nat.{ℕ, _*_}
+use mathlib.Core.Path.{_≡_}
+use mathlib.Core.List.{List, []}
+use mathlib.Core.Bool.{Bool, true, false, cond}
+use lib.ListN.{length}
+use lib.Seq.{sets}
+use lib.Dec.{ltb}
+use Rattle.image.specs.Schema.{Schema}
+use Rattle.image.specs.declared.Frame.{Frame}
+use Rattle.reader.specs.Reading.{readingOf, schemaOf}
+use Rattle.reader.specs.declared.Reading.{Reading}
+use Rattle.sizes.specs.Names.{State}
+use Rattle.sizes.specs.Check.{Checked, accepted, refused, turn, checkSizes, tableOf}
+use Rattle.sizes.specs.Demand.{Demand3}
+use Rattle.turns.specs.Fitted.{fitted}
+use Rattle.turns.specs.declared.Sizing.{Sizing}
+use Rattle.turns.specs.declared.Passed.{Passed}
+
+-- refusal 11 at the declared slot being worked
+abbrev pub verdict : Checked → Sizing
+verdict (accepted st) = Sizing.Accepted
+verdict (refused i) = Sizing.Refused 11 i
+
+abbrev pub rowsIn : Schema → Checked → List ℕ
+rowsIn S (accepted st) = tableOf S st
+rowsIn S (refused i) = []
+
+-- an image that was read: refusal 10 where the table has under 3 places a slot, before any size is worked out
+unfoldable pub sizingIn : (places : ℕ) → Schema → Reading → Sizing
+sizingIn places S (Reading.Refused r p) = Sizing.Refused r p
+sizingIn places S (Reading.Accepted f) = cond (ltb places (3 * length (S .slots))) (Sizing.Refused 10 0) (verdict (checkSizes S))
+
+unfoldable pub sizeRowsIn : (places : ℕ) → Schema → Reading → List ℕ
+sizeRowsIn places S (Reading.Refused r p) = []
+sizeRowsIn places S (Reading.Accepted f) = cond (ltb places (3 * length (S .slots))) [] (rowsIn S (checkSizes S))
+
+-- the answer, refusals 1 to 11
+unfoldable pub sizingOf : (places : ℕ) → List ℕ → Sizing
+sizingOf places s = sizingIn places (schemaOf s) (readingOf s)
+
+-- the table: three numbers a slot, places left over zero, all zero on a refusal
+unfoldable pub sizesOf : (places : ℕ) → List ℕ → List ℕ
+sizesOf places s = fitted places (sizeRowsIn places (schemaOf s) (readingOf s))
+
+-- what is said of the answer and of the table that the caller holds afterwards; on acceptance demand 3 holds of it
+pub record Answered (s before after : List ℕ) (r : Sizing) : Type 0 where
+  pub answer : r ≡ sizingOf (length before) s
+  pub table : after ≡ sizesOf (length before) s
+  pub demand : r ≡ Sizing.Accepted → Demand3 (schemaOf s) after
+
+-- the same of an image that was read
+pub record SizesSaid (s before after : List ℕ) (r : Sizing) : Type 0 where
+  pub answer : (f : Frame) → r ≡ sizingIn (length before) (schemaOf s) (Reading.Accepted f)
+  pub table : (f : Frame) → after ≡ fitted (length before) (sizeRowsIn (length before) (schemaOf s) (Reading.Accepted f))
+  pub demand : r ≡ Sizing.Accepted → Demand3 (schemaOf s) after
+
+-- a place of the declaration list was passed: the rows hold the sizes stored then, or a number passed the limit
+abbrev pub TurnTaken : Schema → State → (slot : ℕ) → (l after : List ℕ) → Bool → Type 0
+TurnTaken S st i l after true = (st′ : State) × (turn S st i ≡ accepted st′) × (after ≡ sets l 0 (tableOf S st′))
+TurnTaken S st i l after false = turn S st i ≡ refused i
+
+-- all places were passed
+abbrev pub Through : Schema → (l after : List ℕ) → Passed → Type 0
+Through S l after Passed.All = (st : State) × (checkSizes S ≡ accepted st) × (after ≡ sets l 0 (tableOf S st))
+Through S l after (Passed.Over i) = checkSizes S ≡ refused i

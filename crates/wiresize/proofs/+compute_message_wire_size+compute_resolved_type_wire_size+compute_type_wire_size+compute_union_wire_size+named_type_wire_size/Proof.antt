@@ -1,0 +1,17 @@
+mod Common
+mod ComputeMessageWireSize
+mod ComputeResolvedTypeWireSize
+mod ComputeTypeWireSize
+mod ComputeUnionWireSize
+mod NamedTypeWireSize
+use Rattle.wiresize.proofs.+compute_message_wire_size+compute_resolved_type_wire_size+compute_type_wire_size+compute_union_wire_size+named_type_wire_size.{statement}
+use Rattle.wiresize.proofs.+compute_message_wire_size+compute_resolved_type_wire_size+compute_type_wire_size+compute_union_wire_size+named_type_wire_size.Tie.{close}
+use Rattle.wiresize.proofs.+compute_message_wire_size+compute_resolved_type_wire_size+compute_type_wire_size+compute_union_wire_size+named_type_wire_size.Proof.Common.{μ-compute-message-wire-size, μ-compute-resolved-type-wire-size, μ-compute-type-wire-size, μ-compute-union-wire-size, μ-named-type-wire-size}
+use Rattle.wiresize.proofs.+compute_message_wire_size+compute_resolved_type_wire_size+compute_type_wire_size+compute_union_wire_size+named_type_wire_size.Proof.ComputeMessageWireSize as compute-message-wire-size
+use Rattle.wiresize.proofs.+compute_message_wire_size+compute_resolved_type_wire_size+compute_type_wire_size+compute_union_wire_size+named_type_wire_size.Proof.ComputeResolvedTypeWireSize as compute-resolved-type-wire-size
+use Rattle.wiresize.proofs.+compute_message_wire_size+compute_resolved_type_wire_size+compute_type_wire_size+compute_union_wire_size+named_type_wire_size.Proof.ComputeTypeWireSize as compute-type-wire-size
+use Rattle.wiresize.proofs.+compute_message_wire_size+compute_resolved_type_wire_size+compute_type_wire_size+compute_union_wire_size+named_type_wire_size.Proof.ComputeUnionWireSize as compute-union-wire-size
+use Rattle.wiresize.proofs.+compute_message_wire_size+compute_resolved_type_wire_size+compute_type_wire_size+compute_union_wire_size+named_type_wire_size.Proof.NamedTypeWireSize as named-type-wire-size
+
+pub +compute-message-wire-size+compute-resolved-type-wire-size+compute-type-wire-size+compute-union-wire-size+named-type-wire-size-spec : {M : Type 1} → statement M
++compute-message-wire-size+compute-resolved-type-wire-size+compute-type-wire-size+compute-union-wire-size+named-type-wire-size-spec = close μ-compute-message-wire-size μ-compute-resolved-type-wire-size μ-compute-type-wire-size μ-compute-union-wire-size μ-named-type-wire-size (λ t. compute-message-wire-size.spec t) (λ t. compute-resolved-type-wire-size.spec t) (λ t. compute-type-wire-size.spec t) (λ t. compute-union-wire-size.spec t) (λ t. named-type-wire-size.spec t)

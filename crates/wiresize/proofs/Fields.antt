@@ -1,0 +1,124 @@
+-- Fields by the code's turns. Assumes nothing.
+use Prim.Native.Nat.{ℕ, zero, suc, _-_, _≤_, _<_}
+use mathlib.Core.Path.{_≡_, refl, sym, ap, subst, _∙_}
+use mathlib.Core.List.{List, [], _∷_}
+use mathlib.Core.Bool.{Bool}
+use native.Mathlib.Omega.{arith}
+use Rattle.number.specs.Grammar.{count, number, Grammar, many, counted, Outcome, done, below, read}
+use Rattle.number.proofs.Reading.{Front, front, read-done, read-number, given, counted-on}
+use Rattle.slot.specs.Field.{Field, fieldAt, fieldsAt}
+use Rattle.reader.specs.Reading.{schemaOf}
+use Rattle.sizes.specs.declared.Size.{Size}
+use Rattle.sizes.specs.declared.Size.the-variants.{Fixed}
+use Rattle.sizes.specs.declared.Worked.{Worked}
+use Rattle.sizes.specs.declared.Worked.the-variants.{Sized, Over}
+use Rattle.sizes.specs.Sizes.{then, limitedSum, Resolver, fieldSize, added, addFields, fieldsSize}
+use Rattle.sizes.specs.Steps.{then-made}
+use Rattle.sizes.specs.Names.{State}
+use Rattle.wiresize.specs.Rows.{RowsHold}
+use Rattle.wiresize.specs.Asked.{Walks, resolver}
+use Rattle.wiresize.specs.declared.Walked.{Walked}
+
+-- a run of nothing
+pub none-left : {A : Type 0} (g : Grammar A) (s : List ℕ) (left here : ℕ) → left ≤ 0 → (xs : List A) (e : ℕ) → read (many left g) s here ≡ done xs e
+    → ([] ≡ xs) × (here ≡ e)
+unfolding many read
+none-left g s zero here h xs e q = given q
+none-left g s (suc left) here h xs e q = absurd (omega arith)
+
+-- the first of a run
+pub first-of : {A : Type 0} (g : Grammar A) (s : List ℕ) (left here : ℕ) → 0 < left → (xs : List A) (e : ℕ) → read (many left g) s here ≡ done xs e
+    → Front g s (left - 1) here xs e
+first-of g s zero here h xs e q = absurd (omega arith)
+first-of g s (suc left) here h xs e q = let d : suc left - 1 ≡ left = omega arith in rw d (front g s left here xs e q)
+
+-- a thing that was read is the one that stands there
+pub same-thing : {A : Type 0} {m : Outcome A} {x y : A} {d e : ℕ} → m ≡ done x d → m ≡ done y e → (x ≡ y) × (d ≡ e)
+same-thing p q = given (sym p ∙ q)
+
+-- what a running total adds up to
+total-on : (R : Resolver) (total : Size) (x : Field) (xs : List Field) {w r : Worked} → w ≡ fieldSize R x → r ≡ then w (λ z. limitedSum (added total z))
+    → addFields R total (x ∷ xs) ≡ then r (λ sum. addFields R sum xs)
+unfolding addFields then
+total-on R total x xs {w} e f =
+    ap (λ (v : Worked). then v (λ z. then (limitedSum (added total z)) (λ sum. addFields R sum xs))) (sym e)
+    ∙ go w
+    ∙ ap (λ (v : Worked). then v (λ sum. addFields R sum xs)) (sym f)
+  where
+    go : (v : Worked) → then v (λ z. then (limitedSum (added total z)) (λ sum. addFields R sum xs)) ≡ then (then v (λ z. limitedSum (added total z))) (λ sum. addFields R sum xs)
+    go (Sized z) = refl
+    go Over = refl
+
+total-done : (R : Resolver) (total : Size) {xs : List Field} → [] ≡ xs → addFields R total xs ≡ Sized total
+unfolding addFields
+total-done R total e = rw (← e)
+
+module _ (s : List ℕ) (names : ℕ) (rows : List ℕ) (w : List Bool) (fieldCount first : ℕ) where
+  abbrev pub Whole : List Field → ℕ → Type 0
+  Whole fs e = read (many fieldCount (fieldAt names)) s first ≡ done fs e
+
+  -- the fields from `here` on, onto the running total, come to what all fields come to
+  pub record FieldsLeft (left here : ℕ) (total : Size) : Type 0 where
+    pub fields : List Field
+    pub end : ℕ
+    pub reads : read (many left (fieldAt names)) s here ≡ done fields end
+    pub ends : (fs : List Field) (e : ℕ) → Whole fs e → end ≡ e
+    pub totals : (fs : List Field) (e : ℕ) → Whole fs e → (st : State) → RowsHold (schemaOf s) st rows
+        → addFields (resolver s st w) total fields ≡ fieldsSize (resolver s st w) fs
+
+  pub fields-start : (fs : List Field) (e : ℕ) → Whole fs e → FieldsLeft fieldCount first (Fixed 0)
+  fields-start fs e q =
+      record { fields = fs; end = e; reads = q; ends = λ xs d p. same-thing q p .1; totals = λ xs d p st H. ap (fieldsSize (resolver s st w)) (same-thing q p .0) }
+
+  module _ {left here : ℕ} {total : Size} (l : FieldsLeft left here total) where
+    pub next-field : 0 < left → Front (fieldAt names) s (left - 1) here (l .fields) (l .end)
+    next-field h = first-of (fieldAt names) s left here h (l .fields) (l .end) (l .reads)
+
+    module _ (h : 0 < left) (r : Walked) (walks : Walks (fieldAt names) fieldSize s rows w here r) where
+      worked-as : (st : State) → RowsHold (schemaOf s) st rows → r .worked ≡ fieldSize (resolver s st w) (next-field h .first)
+      worked-as st H = walks .works .worked _ _ (next-field h .here) st H
+
+      module _ {r′ : Worked} (adds : r′ ≡ then (r .worked) (λ z. limitedSum (added total z))) where
+        onward : (st : State) → RowsHold (schemaOf s) st rows
+            → addFields (resolver s st w) total (l .fields) ≡ then r′ (λ sum. addFields (resolver s st w) sum (next-field h .others))
+        onward st H =
+            let f = next-field h in
+            ap (addFields (resolver s st w) total) (f .whole) ∙ total-on _ total (f .first) (f .others) (worked-as st H) adds
+
+        pub field-turn : {sum : Size} → r′ ≡ Sized sum → FieldsLeft (left - 1) (r .next) sum
+        unfolding then
+        field-turn e =
+            let f = next-field h in
+            let m = then-made (r .worked) _ _ (sym adds ∙ e) in
+            let n = walks .next _ _ (f .here) (m .part) (m .given) in
+            record {
+              fields = f .others;
+              end = l .end;
+              reads = subst (λ (p : ℕ). read (many (left - 1) (fieldAt names)) s p ≡ done (f .others) (l .end)) (sym n) (f .rest);
+              ends = l .ends;
+              totals = λ fs d q st H. sym (onward st H ∙ rw e) ∙ l .totals fs d q st H;
+            }
+
+        pub field-over : r′ ≡ Over → (fs : List Field) (e : ℕ) → Whole fs e → (st : State) → RowsHold (schemaOf s) st rows
+            → Over ≡ fieldsSize (resolver s st w) fs
+        unfolding then
+        field-over o fs e q st H = sym (onward st H ∙ rw o) ∙ l .totals fs e q st H
+
+    module _ (h : left ≤ 0) (fs : List Field) (e : ℕ) (q : Whole fs e) where
+      pub fields-end : here ≡ e
+      fields-end = none-left (fieldAt names) s left here h (l .fields) (l .end) (l .reads) .1 ∙ l .ends fs e q
+
+      pub fields-sum : (st : State) → RowsHold (schemaOf s) st rows → Sized total ≡ fieldsSize (resolver s st w) fs
+      fields-sum st H =
+          sym (total-done (resolver s st w) total (none-left (fieldAt names) s left here h (l .fields) (l .end) (l .reads) .0)) ∙ l .totals fs e q st H
+
+-- the fields behind their count
+pub fields-behind : (s : List ℕ) (names at : ℕ) {count first : ℕ} → below 65537 s at ≡ done count first → {fs : List Field} {e : ℕ}
+    → read (fieldsAt names) s at ≡ done fs e → read (many count (fieldAt names)) s first ≡ done fs e
+fields-behind s names at b q = sym (counted-on (fieldAt names) s at _ _ b) ∙ q
+
+-- the count is there
+pub count-read : {A : Type 0} (g : Grammar A) (s : List ℕ) (at : ℕ) {xs : List A} {e : ℕ} → read (counted g) s at ≡ done xs e
+    → (c : ℕ) × (n : ℕ) × (below 65537 s at ≡ done c n)
+unfolding counted
+count-read g s at q = let a = read-done (number count 65537) (λ c. many c g) s at _ _ q in (a .first, a .middle, sym (read-number count 65537 s at) ∙ a .here)

@@ -1,0 +1,156 @@
+-- Sizes of types by their parts, and of fields by their encodings. Assumes nothing.
+use Prim.Native.Nat.{ℕ}
+use mathlib.Core.Path.{_≡_, refl, sym, ap, subst, _∙_}
+use mathlib.Core.List.{List}
+use native.Mathlib.Omega.{arith}
+use Rattle.number.specs.Grammar.{Grammar, Outcome, done, below, read}
+use Rattle.tree.specs.Tree.{Tree, Leaf, Wrap, Pair, leaf, wrap, fixedArray, pair, generic, primitive, subByte, semantic, named, bitsInline, qualified, mapOf, resultOf, leafKind, leafNumber, wrapKind, pairKind}
+use Rattle.tree.specs.TreeAt.{headAt, shape}
+use Rattle.tree.specs.declared.Sort.the-variants.{Resolved}
+use Rattle.tree.specs.declared.Head.{Head}
+use Rattle.tree.proofs.Shapes.{Parts}
+use Rattle.tree.specs.Encoding.{Encoding, default, varint, zigZag, delta}
+use Rattle.slot.specs.Field.{typeAt}
+use Rattle.sizes.specs.declared.Size.{Size}
+use Rattle.sizes.specs.declared.Size.the-variants.{Bounded, Open}
+use Rattle.sizes.specs.declared.Worked.{Worked}
+use Rattle.sizes.specs.declared.Worked.the-variants.{Sized, Over}
+use Rattle.sizes.specs.Sizes.{then, limitedSum, limitedProduct, multiplied, withoutLargest, Resolver, leafSize, countOf, wrapSize, typeSize, raised, widened, varintEnd, zigZagEnd, encodedSize}
+use Rattle.measures.proofs.ByKind.{wrap-at}
+use Rattle.wiresize.proofs.Heads.{type-parts}
+use Rattle.wiresize.specs.Steps.{Headed, HasParts, Decides, codedAs}
+use Rattle.wiresize.specs.declared.Decided.{Decided}
+use Rattle.wiresize.specs.declared.Coded.{Coded}
+
+pub below-at : (limit : ℕ) (s : List ℕ) {n m : ℕ} {o : Outcome ℕ} → n ≡ m → below limit s m ≡ o → below limit s n ≡ o
+below-at limit s e q = rw e q
+
+pub leaf-named : (l : Leaf) {k v : ℕ} → leafKind l ≡ k → k ≡ 3 → leafNumber l ≡ v → l ≡ named v
+leaf-named (primitive p) e f g = absurd (omega arith)
+leaf-named (subByte x b) e f g = absurd (omega arith)
+leaf-named (semantic m) e f g = absurd (omega arith)
+leaf-named (named i) e f g = ap named g
+leaf-named (bitsInline ns) e f g = absurd (omega arith)
+leaf-named (qualified n) e f g = absurd (omega arith)
+
+pub pair-map : (p : Pair) {k : ℕ} → pairKind p ≡ k → k ≡ 8 → p ≡ mapOf
+pair-map mapOf e f = refl
+pair-map resultOf e f = absurd (omega arith)
+
+pub pair-result : (p : Pair) {k : ℕ} → pairKind p ≡ k → (k ≡ 8 → ⊥) → p ≡ resultOf
+pair-result mapOf e f = absurd (f (sym e))
+pair-result resultOf e f = refl
+
+module _ (R : Resolver) {t : Tree} where
+  pub leaf-sized : {l : Leaf} {w : Worked} → t ≡ leaf l → w ≡ leafSize R l → w ≡ typeSize R t
+  unfolding typeSize
+  leaf-sized e q = q ∙ sym (ap (typeSize R) e)
+
+  pub name-sized : {i : ℕ} {w : Worked} → t ≡ leaf (named i) → w ≡ R i → w ≡ typeSize R t
+  unfolding typeSize leafSize
+  name-sized e q = q ∙ sym (ap (typeSize R) e)
+
+  -- Array and Set
+  pub run-sized : (x : Wrap) {u : Tree} {w : Worked} {k : ℕ} → t ≡ wrap x u → wrapKind x ≡ k → k ≡ 5 → w ≡ Sized (Open 8) → w ≡ typeSize R t
+  unfolding typeSize wrapSize
+  run-sized x e f g q = wrap-at x _ 5 (f ∙ g) q ∙ sym (ap (typeSize R) e)
+
+  pub set-sized : (x : Wrap) {u : Tree} {w : Worked} {k : ℕ} → t ≡ wrap x u → wrapKind x ≡ k → k ≡ 7 → w ≡ Sized (Open 8) → w ≡ typeSize R t
+  unfolding typeSize wrapSize
+  set-sized x e f g q = wrap-at x _ 7 (f ∙ g) q ∙ sym (ap (typeSize R) e)
+
+  pub wrap-sized : {x : Wrap} {u : Tree} {w child : Worked} → t ≡ wrap x u → w ≡ wrapSize (countOf x) child → child ≡ typeSize R u → w ≡ typeSize R t
+  unfolding typeSize
+  wrap-sized {x = x} e q c = q ∙ ap (wrapSize (countOf x)) c ∙ sym (ap (typeSize R) e)
+
+  pub map-sized : {p : Pair} {u v : Tree} {w : Worked} → t ≡ pair p u v → p ≡ mapOf → w ≡ Sized (Open 8) → w ≡ typeSize R t
+  unfolding typeSize
+  map-sized {u = u} {v = v} e f q = q ∙ sym (ap (typeSize R) (e ∙ ap (λ (p : Pair). pair p u v) f))
+
+  pub result-sized : {u v : Tree} {a : Size} {w ok err : Worked} → t ≡ pair resultOf u v → ok ≡ Sized a → ok ≡ typeSize R u → err ≡ typeSize R v
+      → w ≡ then err (λ s. limitedSum (raised 1 (widened a s))) → w ≡ typeSize R t
+  unfolding typeSize then
+  result-sized e f g h q = let z = sym g ∙ f in q ∙ rw (e, z, h)
+
+  pub result-over : {u v : Tree} {ok : Worked} → t ≡ pair resultOf u v → ok ≡ Over → ok ≡ typeSize R u → ok ≡ typeSize R t
+  unfolding typeSize then
+  result-over e f g = let z = sym g ∙ f in f ∙ rw (e, z)
+
+  pub array-sized : {u : Tree} {k : ℕ} {w element : Worked} → t ≡ fixedArray u k → w ≡ then element (λ s. limitedProduct (multiplied k (withoutLargest s)))
+      → element ≡ typeSize R u → w ≡ typeSize R t
+  unfolding typeSize
+  array-sized {k = k} e q c = q ∙ ap (λ (x : Worked). then x (λ s. limitedProduct (multiplied k (withoutLargest s)))) c ∙ sym (ap (typeSize R) e)
+
+  pub generic-sized : {n : ℕ} {u : Tree} {w : Worked} → t ≡ generic n u → w ≡ Sized (Open 0) → w ≡ typeSize R t
+  unfolding typeSize
+  generic-sized e q = q ∙ sym (ap (typeSize R) e)
+
+-- ## Heads
+
+pub decided : {head : Head} (z : Size) → ((names : Resolver) (t : Tree) → Headed head t → Sized z ≡ typeSize names t) → Decides head (Decided.Is z)
+decided {head} z h = record { sized = λ y e names t p. subst (λ (x : Size). Sized x ≡ typeSize names t) (is-inj e) (h names t p); parts = λ e. is-not e }
+  where
+    is-inj : {y : Size} → Decided.Is z ≡ Decided.Is y → z ≡ y
+    is-inj e = cc
+
+    is-not : {A : Type 0} → Decided.Is z ≡ Decided.Parts → A
+    is-not e = let q : _≡_ {A = ℕ} 0 1 = cc in absurd (omega arith)
+
+pub has-parts : {head : Head} → HasParts head → Decides head Decided.Parts
+has-parts h = record { sized = λ z e names t p. let q : _≡_ {A = ℕ} 0 1 = cc in absurd (omega arith); parts = λ e. h }
+
+pub parts-at : {x y : Head} → HasParts x → x ≡ y → HasParts y
+parts-at h e = subst HasParts e h
+
+pub decided-at : {x y : Head} {r : Decided} → x ≡ y → Decides y r → Decides x r
+decided-at {r = r} e h = subst (λ (z : Head). Decides z r) (sym e) h
+
+headed : (child : Grammar Tree) (s : List ℕ) (x : Head) (t : Tree) (end : ℕ) → Parts child s x t end → Headed x t
+headed child s (Head.Leaf k g v n) t end (l, e, a, b, c, d) = (l, e, a, c)
+headed child s (Head.One k n) t end (w, u, e, a, r) = (w, u, e, a)
+headed child s (Head.Two k n) t end (p, u, v, m, e, a, r, q) = (p, u, v, e, a)
+headed child s (Head.Sized n) t end (u, m, k, e, r, q) = (u, k, e)
+headed child s (Head.Generic v n) t end (u, e, r) = (u, e)
+headed child s (Head.Refused r p) t end z = z
+
+-- a type has the head that was read
+pub type-headed : (names : ℕ) (s : List ℕ) (at : ℕ) (x : Head) → x ≡ shape (read (headAt Resolved names) s at) → (t : Tree) (end : ℕ) → read (typeAt names) s at ≡ done t end
+    → Headed x t
+type-headed names s at x e t end q = headed (typeAt names) s x t end (type-parts names s at x (sym e) t end q)
+
+-- ## Encodings
+
+plain-inj : {n p : ℕ} → Coded.Plain p ≡ Coded.Plain n → p ≡ n
+plain-inj e = cc
+
+varint-inj : {n p : ℕ} → Coded.Varint p ≡ Coded.Varint n → p ≡ n
+varint-inj e = cc
+
+zigzag-inj : {n p : ℕ} → Coded.ZigZag p ≡ Coded.ZigZag n → p ≡ n
+zigzag-inj e = cc
+
+-- which encoding governs, and at which position
+pub record Governed (e : Encoding) (n p : ℕ) (size : Resolver → Tree → Worked) : Type 0 where
+  pub place : p ≡ n
+  pub same : (R : Resolver) (t : Tree) → size R t ≡ encodedSize R e t
+
+pub plain-is : (e : Encoding) {n p : ℕ} → Coded.Plain p ≡ codedAs e n → Governed e n p typeSize
+unfolding codedAs encodedSize
+plain-is default q = record { place = plain-inj q; same = λ R t. refl }
+plain-is varint q = let z : _≡_ {A = ℕ} 0 1 = cc in absurd (omega arith)
+plain-is zigZag q = let z : _≡_ {A = ℕ} 0 1 = cc in absurd (omega arith)
+plain-is (delta e) q = let g = plain-is e q in record { place = g .place; same = g .same }
+
+pub varint-is : (e : Encoding) {n p : ℕ} → Coded.Varint p ≡ codedAs e n → Governed e n p (λ R t. Sized (Bounded 8 (varintEnd t)))
+unfolding codedAs encodedSize
+varint-is default q = let z : _≡_ {A = ℕ} 0 1 = cc in absurd (omega arith)
+varint-is varint q = record { place = varint-inj q; same = λ R t. refl }
+varint-is zigZag q = let z : _≡_ {A = ℕ} 0 1 = cc in absurd (omega arith)
+varint-is (delta e) q = let g = varint-is e q in record { place = g .place; same = g .same }
+
+pub zigzag-is : (e : Encoding) {n p : ℕ} → Coded.ZigZag p ≡ codedAs e n → Governed e n p (λ R t. Sized (Bounded 8 (zigZagEnd t)))
+unfolding codedAs encodedSize
+zigzag-is default q = let z : _≡_ {A = ℕ} 0 1 = cc in absurd (omega arith)
+zigzag-is varint q = let z : _≡_ {A = ℕ} 0 1 = cc in absurd (omega arith)
+zigzag-is zigZag q = record { place = zigzag-inj q; same = λ R t. refl }
+zigzag-is (delta e) q = let g = zigzag-is e q in record { place = g .place; same = g .same }

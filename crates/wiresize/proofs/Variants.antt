@@ -1,0 +1,108 @@
+-- Variants by the code's turns. Assumes nothing.
+use Prim.Native.Nat.{ℕ, _-_, _≤_, _<_}
+use mathlib.Core.Path.{_≡_, sym, ap, subst, _∙_}
+use mathlib.Core.List.{List, [], _∷_}
+use mathlib.Core.Bool.{Bool, true, false}
+use native.Mathlib.Omega.{arith}
+use Rattle.number.specs.Grammar.{many, done, below, read}
+use Rattle.number.proofs.Reading.{Front, counted-on}
+use Rattle.slot.specs.Field.{Field, fieldAt, fieldsAt}
+use Rattle.reader.specs.Reading.{schemaOf}
+use Rattle.sizes.specs.declared.Size.{Size}
+use Rattle.sizes.specs.declared.Size.the-variants.{Bounded}
+use Rattle.sizes.specs.declared.Worked.{Worked}
+use Rattle.sizes.specs.declared.Worked.the-variants.{Sized, Over}
+use Rattle.sizes.specs.Sizes.{then, limitedSum, Resolver, fieldsSize, mark, addVariants, unionSize, widened, raised, unmarked}
+use Rattle.sizes.specs.Names.{State}
+use Rattle.wiresize.specs.Rows.{RowsHold}
+use Rattle.wiresize.specs.Asked.{resolver}
+use Rattle.wiresize.specs.Steps.{variantsAt}
+use Rattle.wiresize.proofs.Fields.{none-left, first-of, same-thing, fields-behind, FieldsLeft, fields-start, fields-end, fields-sum}
+
+pub clash : {b c : Bool} → b ≡ true → b ≡ c → c ≡ false → ⊥
+clash p q r = let z : true ≡ false = cc in let n : _≡_ {A = ℕ} 0 1 = cc in omega arith
+
+extremes-on : (R : Resolver) (extremes : Size) (v : List Field) (vs : List (List Field)) {z : Size} → Sized z ≡ fieldsSize R v
+    → addVariants R extremes (v ∷ vs) ≡ addVariants R (widened extremes z) vs
+unfolding addVariants then
+extremes-on R extremes v vs e = rw (← e)
+
+extremes-over : (R : Resolver) (extremes : Size) (v : List Field) (vs : List (List Field)) → Over ≡ fieldsSize R v → addVariants R extremes (v ∷ vs) ≡ Over
+unfolding addVariants then
+extremes-over R extremes v vs e = rw (← e)
+
+extremes-done : (R : Resolver) (extremes : Size) {vs : List (List Field)} → [] ≡ vs → addVariants R extremes vs ≡ Sized extremes
+unfolding addVariants
+extremes-done R extremes e = rw (← e)
+
+union-over : (R : Resolver) (vs : List (List Field)) → addVariants R (Bounded mark 0) vs ≡ Over → Over ≡ unionSize R vs
+unfolding unionSize then
+union-over R vs e = rw e
+
+union-sized : (R : Resolver) (vs : List (List Field)) {x : Size} {r : Worked} → addVariants R (Bounded mark 0) vs ≡ Sized x
+    → r ≡ limitedSum (raised 8 (unmarked x)) → r ≡ unionSize R vs
+unfolding unionSize then
+union-sized R vs e q = q ∙ rw e
+
+module _ (s : List ℕ) (names : ℕ) (rows : List ℕ) (w : List Bool) (count first : ℕ) where
+  abbrev pub Whole : List (List Field) → ℕ → Type 0
+  Whole vs e = read (many count (fieldsAt names)) s first ≡ done vs e
+
+  -- the variants from `here` on widen the extremes to those of all variants
+  pub record VariantsLeft (left here : ℕ) (extremes : Size) : Type 0 where
+    pub variants : List (List Field)
+    pub end : ℕ
+    pub reads : read (many left (fieldsAt names)) s here ≡ done variants end
+    pub widens : (vs : List (List Field)) (e : ℕ) → Whole vs e → (st : State) → RowsHold (schemaOf s) st rows
+        → addVariants (resolver s st w) extremes variants ≡ addVariants (resolver s st w) (Bounded mark 0) vs
+
+  pub variants-start : (vs : List (List Field)) (e : ℕ) → Whole vs e → VariantsLeft count first (Bounded mark 0)
+  variants-start vs e q =
+      record { variants = vs; end = e; reads = q; widens = λ xs d p st H. ap (addVariants (resolver s st w) (Bounded mark 0)) (same-thing q p .0) }
+
+  module _ {left here : ℕ} {extremes : Size} (l : VariantsLeft left here extremes) where
+    module _ (h : 0 < left) where
+      pub next-variant : Front (fieldsAt names) s (left - 1) here (l .variants) (l .end)
+      next-variant = first-of (fieldsAt names) s left here h (l .variants) (l .end) (l .reads)
+
+      module _ {fields after : ℕ} (b : below 65537 s here ≡ done fields after) where
+        pub variant-fields : read (many fields (fieldAt names)) s after ≡ done (next-variant .first) (next-variant .middle)
+        variant-fields = fields-behind s names here b (next-variant .here)
+
+        pub variant-start : FieldsLeft s names rows w fields after fields after (Size.Fixed 0)
+        variant-start = fields-start s names rows w fields after _ _ variant-fields
+
+        pub variant-turn : {more at : ℕ} {total wider : Size} → FieldsLeft s names rows w fields after more at total → more ≤ 0
+            → wider ≡ widened extremes total → VariantsLeft (left - 1) at wider
+        variant-turn i m d =
+            let f = next-variant in
+            let n = fields-end s names rows w fields after i m _ _ variant-fields in
+            record {
+              variants = f .others;
+              end = l .end;
+              reads = subst (λ (p : ℕ). read (many (left - 1) (fieldsAt names)) s p ≡ done (f .others) (l .end)) (sym n) (f .rest);
+              widens = λ vs e q st H.
+                  ap (λ (x : Size). addVariants (resolver s st w) x (f .others)) d
+                  ∙ sym (ap (addVariants (resolver s st w) extremes) (f .whole)
+                  ∙ extremes-on _ extremes (f .first) (f .others) (fields-sum s names rows w fields after i m _ _ variant-fields st H))
+                  ∙ l .widens vs e q st H;
+            }
+
+        pub variant-over : ((fs : List Field) (e : ℕ) → read (many fields (fieldAt names)) s after ≡ done fs e → (st : State) → RowsHold (schemaOf s) st rows
+            → Over ≡ fieldsSize (resolver s st w) fs) → (vs : List (List Field)) (e : ℕ) → Whole vs e → (st : State) → RowsHold (schemaOf s) st rows
+            → Over ≡ unionSize (resolver s st w) vs
+        variant-over o vs e q st H =
+            let f = next-variant in
+            union-over _ vs (sym (l .widens vs e q st H) ∙ ap (addVariants (resolver s st w) extremes) (f .whole)
+            ∙ extremes-over _ extremes (f .first) (f .others) (o _ _ variant-fields st H))
+
+    pub variants-end : left ≤ 0 → {r : Worked} → r ≡ limitedSum (raised 8 (unmarked extremes)) → (vs : List (List Field)) (e : ℕ) → Whole vs e → (st : State)
+        → RowsHold (schemaOf s) st rows → r ≡ unionSize (resolver s st w) vs
+    variants-end h q vs e p st H =
+        union-sized _ vs
+        (sym (l .widens vs e p st H) ∙ extremes-done _ extremes (none-left (fieldsAt names) s left here h (l .variants) (l .end) (l .reads) .0)) q
+
+-- the variants behind their count
+pub variants-behind : (s : List ℕ) (names at : ℕ) {count first : ℕ} → below 65537 s at ≡ done count first → {vs : List (List Field)} {e : ℕ}
+    → read (variantsAt names) s at ≡ done vs e → read (many count (fieldsAt names)) s first ≡ done vs e
+variants-behind s names at b q = sym (counted-on (fieldsAt names) s at _ _ b) ∙ q

@@ -1,0 +1,62 @@
+-- What each step of working sizes out may rely on, and what it answers.
+use Prim.Native.Nat.{ℕ, _*_, _≤_}
+use mathlib.Core.Path.{_≡_}
+use mathlib.Core.List.{List}
+use mathlib.Core.Bool.{Bool, false}
+use mathlib.Core.Option.{Option, none, some}
+use lib.ListN.{length, getD}
+use Rattle.number.specs.Grammar.{Grammar, done, read}
+use Rattle.image.specs.declared.Frame.{Frame}
+use Rattle.reader.specs.Reading.{schemaOf}
+use Rattle.reader.specs.Promise.{Promise}
+use Rattle.sizes.specs.declared.Size.{Size}
+use Rattle.sizes.specs.declared.Worked.{Worked}
+use Rattle.sizes.specs.declared.Worked.the-variants.{Sized, Over}
+use Rattle.sizes.specs.Sizes.{Resolver}
+use Rattle.sizes.specs.Names.{State, Working, nameSize}
+use Rattle.sizes.specs.Check.{ownSize}
+use Rattle.wiresize.specs.declared.Walked.{Walked}
+use Rattle.wiresize.specs.declared.Turned.{Turned}
+use Rattle.wiresize.specs.Rows.{RowsHold}
+
+-- the slots that are marked
+abbrev pub marked : List Bool → Working
+marked w j = getD w j false
+
+-- an accepted image, a table that has a row for each slot, a mark for each slot
+pub record Ready (s starts : List ℕ) (f : Frame) (rows : List ℕ) (w : List Bool) : Type 0 where
+  pub promise : Promise s starts f
+  pub rowRoom : 3 * f .slots ≤ length rows
+  pub marks : length w ≡ 512
+
+-- something of the schema stands at the position
+pub record Asked {A : Type 0} (g : Grammar A) (s starts : List ℕ) (f : Frame) (rows : List ℕ) (w : List Bool) (at : ℕ) : Type 0 where
+  pub ready : Ready s starts f rows w
+  pub thing : A
+  pub end : ℕ
+  pub reads : read g s at ≡ done thing end
+
+-- what names come to while slots are marked
+abbrev pub resolver : (s : List ℕ) → State → List Bool → Resolver
+resolver s st w = nameSize (schemaOf s) st (marked w)
+
+-- the size of what stands there, whatever the sizes stored, if the table holds them
+pub record WorksOut {A : Type 0} (g : Grammar A) (size : Resolver → A → Worked) (s rows : List ℕ) (w : List Bool) (at : ℕ) (r : Worked) : Type 0 where
+  pub worked : (x : A) (end : ℕ) → read g s at ≡ done x end → (st : State) → RowsHold (schemaOf s) st rows → r ≡ size (resolver s st w) x
+
+-- and, where it has one, the position after it
+pub record Walks {A : Type 0} (g : Grammar A) (size : Resolver → A → Worked) (s rows : List ℕ) (w : List Bool) (at : ℕ) (r : Walked) : Type 0 where
+  pub next : (x : A) (end : ℕ) → read g s at ≡ done x end → (z : Size) → r .worked ≡ Sized z → r .next ≡ end
+  pub works : WorksOut g size s rows w at (r .worked)
+
+pub record Names (s rows : List ℕ) (w : List Bool) (id : ℕ) (r : Worked) : Type 0 where
+  pub worked : (st : State) → RowsHold (schemaOf s) st rows → r ≡ resolver s st w id
+
+-- what a turn answers
+abbrev pub turnOf : Turned → Option Worked
+turnOf (Turned.Sized s) = some (Sized s)
+turnOf Turned.Over = some Over
+turnOf Turned.Other = none
+
+pub record Owns (s rows : List ℕ) (slot : ℕ) (r : Turned) : Type 0 where
+  pub turn : (st : State) → RowsHold (schemaOf s) st rows → turnOf r ≡ ownSize (schemaOf s) st slot

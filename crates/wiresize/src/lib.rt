@@ -1,0 +1,471 @@
+// Sizes of types, names, fields, messages and unions, from the bytes of an accepted image.
+use image::Frame;
+use number::Next;
+use number::Ranged;
+use sizes::Size;
+use sizes::Worked;
+use tree::Head;
+use tree::Sort;
+use view::Part;
+ghost use mathlib.Core.Path.{_≡_};
+ghost use Prim.Native.Nat.{ℕ, _+_, _*_, _<_, _≤_};
+ghost use lib.ListN.{length};
+ghost use Rattle.number.specs.Grammar.{done, read};
+ghost use Rattle.tree.specs.Encoding.{Encoding, encodingAt};
+ghost use Rattle.slot.specs.Field.{typeAt, fieldAt, fieldsAt, Field};
+ghost use Rattle.reader.specs.Promise.{Promise};
+ghost use Rattle.sizes.specs.Sizes.{typeSize, fieldSize, fieldsSize, unionSize, varintEnd, zigZagEnd};
+ghost use Rattle.wiresize.specs.Steps.{codedAs, kindIn, numberIn, Passed, Decides, Coding, Wraps, Results, Arrays, variantsAt, turnedAs};
+ghost use Rattle.wiresize.specs.Rows.{rowAt};
+ghost use Rattle.wiresize.specs.Asked.{Asked, Ready, Walks, WorksOut, Names, Owns};
+
+// A size that was worked out, and the position after its type.
+pub struct Walked {
+    pub worked: Worked,
+    pub next: usize,
+}
+
+// Where a field's type stands, by the encoding that governs it.
+pub enum Coded {
+    Plain(usize),
+    Varint(usize),
+    ZigZag(usize),
+}
+
+// The kind and the number of a type's head.
+pub struct Kinded {
+    pub kind: u64,
+    pub number: u64,
+}
+
+// What the head of a type decides: its size, or that its parts are to be worked out.
+pub enum Decided {
+    Is(Size),
+    Parts,
+}
+
+// What a row of the size table says of a name.
+pub enum Row {
+    Known(Worked),
+    None,
+}
+
+// A turn of a declared slot; Other is neither a message nor a union.
+pub enum Turned {
+    Sized(Size),
+    Over,
+    Other,
+}
+
+// A type that is not worked out, because its size is known.
+fn pass_type(image: &[u8], at: usize, names: u64, size: Size) -> Walked
+    ensures { λ r. ⌜ Passed names (now (image .entry)) at (λ t. Worked.Sized size) r ⌝ }
+{
+    match tree::read_tree(image, at, 32, Sort::Resolved, names) {
+        Next::At(next) => Walked {
+            worked: Worked::Sized(size),
+            next,
+        },
+        Next::Refused(_, place) => Walked {
+            worked: Worked::Over,
+            next: place,
+        },
+    }
+}
+
+fn kind_and_number(head: Head) -> Kinded
+    ensures { λ r. ⌜ (r .kind ≡ kindIn head) × (r .number ≡ numberIn head) ⌝ }
+{
+    match head {
+        Head::Leaf(kind, _, number, _) => Kinded { kind, number },
+        Head::One(kind, _) => Kinded { kind, number: 0 },
+        Head::Two(kind, _) => Kinded { kind, number: 0 },
+        Head::Sized(_) => Kinded { kind: 6, number: 0 },
+        Head::Generic(_, _) => Kinded {
+            kind: 18,
+            number: 0,
+        },
+        Head::Refused(_, _) => Kinded {
+            kind: 18,
+            number: 0,
+        },
+    }
+}
+
+fn varint_type(image: &[u8], at: usize, names: u64) -> Walked
+    ensures { λ r. ⌜ Passed names (now (image .entry)) at (λ t. Worked.Sized (Size.Bounded 8 (varintEnd t))) r ⌝ }
+{
+    let head = kind_and_number(tree::read_head(image, at, Sort::Resolved, names));
+    let size = measures::varint_wire_size(head.kind, head.number);
+    pass_type(image, at, names, size)
+}
+
+fn zigzag_type(image: &[u8], at: usize, names: u64) -> Walked
+    ensures { λ r. ⌜ Passed names (now (image .entry)) at (λ t. Worked.Sized (Size.Bounded 8 (zigZagEnd t))) r ⌝ }
+{
+    let head = kind_and_number(tree::read_head(image, at, Sort::Resolved, names));
+    let size = measures::zigzag_wire_size(head.kind, head.number);
+    pass_type(image, at, names, size)
+}
+
+// Delta counts as its inner encoding.
+fn read_coded(image: &[u8], at: usize) -> Coded
+    ensures { λ r. ⌜ ((e : Encoding) (end : ℕ) → read (encodingAt 32) (now (image .entry)) at ≡ done e end → r ≡ codedAs e end) ⌝ }
+{
+    let mut levels: u64 = 32;
+    let mut p = at;
+    while 0 < levels {
+        match number::read_below(image, p, 4) {
+            Ranged::Value(kind, after) => {
+                match kind {
+                    0 => return Coded::Plain(after),
+                    1 => return Coded::Varint(after),
+                    2 => return Coded::ZigZag(after),
+                    _ => {}
+                }
+                p = after;
+                levels -= 1;
+            }
+            Ranged::Refused(_, place) => {
+                return Coded::Plain(place);
+            }
+        }
+    }
+    Coded::Plain(p)
+}
+
+// The type of a field.
+fn field_type(image: &[u8], at: usize, names: u64) -> Coded
+    ensures { λ r. ⌜ ((x : Field) (end : ℕ) → read (fieldAt names) (now (image .entry)) at ≡ done x end → Coding names (now (image .entry)) x end r) ⌝ }
+{
+    match number::skip_below(image, at, names) {
+        Next::At(p) => read_coded(image, p),
+        Next::Refused(_, place) => Coded::Plain(place),
+    }
+}
+
+// What the table says of a slot: nothing of a message or union that has no stored size yet, nor of other slots.
+fn known_size(rows: &[u64], slot: usize) -> Row
+    requires { ⌜ 3 * slot + 3 ≤ length (now rows) ⌝ }
+    ensures { λ r. ⌜ r ≡ rowAt (now (rows .entry)) slot ⌝ }
+{
+    let first = 3 * slot;
+    let kind = rows[first];
+    let a = rows[first + 1];
+    let b = rows[first + 2];
+    match kind {
+        1 => Row::Known(Worked::Sized(Size::Fixed(a))),
+        2 => Row::Known(Worked::Sized(Size::Bounded(a, b))),
+        3 => Row::Known(Worked::Sized(Size::Open(a))),
+        4 => Row::Known(Worked::Sized(Size::Fixed(a))),
+        5 => Row::Known(measures::multiply_wire_size(Size::Fixed(a), 8)),
+        _ => Row::None,
+    }
+}
+
+// A kind with one child, once the child was worked out.
+fn wrap_child(kind: u64, child: Walked) -> Walked
+    ensures { λ r. ⌜ Wraps kind child r ⌝ }
+{
+    let worked = child.worked;
+    let next = child.next;
+    match worked {
+        Worked::Sized(size) => Walked {
+            worked: measures::wrap_wire_size(kind, size),
+            next,
+        },
+        Worked::Over => Walked { worked, next },
+    }
+}
+
+// A Result, once both sides were worked out.
+fn join_sides(ok: Size, err: Walked) -> Walked
+    ensures { λ r. ⌜ Results ok err r ⌝ }
+{
+    let worked = err.worked;
+    let next = err.next;
+    match worked {
+        Worked::Sized(size) => Walked {
+            worked: measures::result_wire_size(ok, size),
+            next,
+        },
+        Worked::Over => Walked { worked, next },
+    }
+}
+
+// A fixed array, once its element was worked out; its size stands behind the element.
+fn repeat_element(image: &[u8], element: Walked) -> Walked
+    ensures { λ r. ⌜ Arrays (now (image .entry)) element r ⌝ }
+{
+    let worked = element.worked;
+    let next = element.next;
+    match worked {
+        Worked::Sized(size) => match number::read_whole(image, next) {
+            Ranged::Value(count, after) => Walked {
+                worked: measures::fixed_array_wire_size(size, count),
+                next: after,
+            },
+            Ranged::Refused(_, place) => Walked {
+                worked: Worked::Over,
+                next: place,
+            },
+        },
+        Worked::Over => Walked { worked, next },
+    }
+}
+
+// Types without parts, and those whose elements are not worked out: Array, Map and Set. No type holds a generic.
+fn head_wire_size(head: Head) -> Decided
+    ensures { λ r. ⌜ Decides head r ⌝ }
+{
+    match head {
+        Head::Leaf(kind, _, number, _) => {
+            if kind == 3 {
+                return Decided::Parts;
+            }
+            Decided::Is(measures::leaf_wire_size(kind, number))
+        }
+        Head::One(kind, _) => match kind {
+            5 => Decided::Is(Size::Open(8)),
+            7 => Decided::Is(Size::Open(8)),
+            _ => Decided::Parts,
+        },
+        Head::Two(kind, _) => {
+            if kind == 8 {
+                return Decided::Is(Size::Open(8));
+            }
+            Decided::Parts
+        }
+        Head::Sized(_) => Decided::Parts,
+        Head::Generic(_, _) => Decided::Is(Size::Open(0)),
+        Head::Refused(_, _) => Decided::Is(Size::Open(0)),
+    }
+}
+
+// A type.
+fn compute_resolved_type_wire_size(
+    image: &[u8],
+    starts: &[usize],
+    frame: Frame,
+    rows: &[u64],
+    at: usize,
+    working: &[bool; 512],
+) -> Walked
+    requires { ⌜ Asked (typeAt (frame .names)) (now image) (now starts) frame (now rows) (now working) at ⌝ }
+    ensures { λ r. ⌜ Walks (typeAt (frame .names)) typeSize (now (image .entry)) (now (rows .entry)) (now (working .entry)) at r ⌝ }
+{
+    let names = frame.names;
+    let head = tree::read_head(image, at, Sort::Resolved, names);
+    if let Decided::Is(size) = head_wire_size(head) {
+        return pass_type(image, at, names, size);
+    }
+    match head {
+        Head::Leaf(_, _, id, next) => {
+            let worked = named_type_wire_size(image, starts, frame, rows, id, working);
+            Walked { worked, next }
+        }
+        Head::One(kind, body) => {
+            let child = compute_resolved_type_wire_size(image, starts, frame, rows, body, working);
+            wrap_child(kind, child)
+        }
+        Head::Two(_, body) => {
+            let ok = compute_resolved_type_wire_size(image, starts, frame, rows, body, working);
+            let worked = ok.worked;
+            let Worked::Sized(size) = worked else {
+                return ok;
+            };
+            let place = ok.next;
+            let err = compute_resolved_type_wire_size(image, starts, frame, rows, place, working);
+            join_sides(size, err)
+        }
+        Head::Sized(body) => {
+            let item = compute_resolved_type_wire_size(image, starts, frame, rows, body, working);
+            repeat_element(image, item)
+        }
+        Head::Generic(_, place) => pass_type(image, place, names, Size::Open(0)),
+        Head::Refused(_, place) => pass_type(image, place, names, Size::Open(0)),
+    }
+}
+
+// A name. A slot that is being worked out is tested first, also before its row.
+fn named_type_wire_size(
+    image: &[u8],
+    starts: &[usize],
+    frame: Frame,
+    rows: &[u64],
+    id: u64,
+    working: &[bool; 512],
+) -> Worked
+    requires { ⌜ Ready (now image) (now starts) frame (now rows) (now working) ⌝ }
+    ensures { λ r. ⌜ Names (now (image .entry)) (now (rows .entry)) (now (working .entry)) id r ⌝ }
+{
+    if id >= frame.slots {
+        return Worked::Sized(Size::Open(0));
+    }
+    let slot = id as usize;
+    if working[slot] {
+        return Worked::Sized(Size::Open(0));
+    }
+    if let Row::Known(worked) = known_size(rows, slot) {
+        return worked;
+    }
+    let Part::At(kind, body) = view::slot_part(image, starts, slot) else {
+        return Worked::Sized(Size::Open(0));
+    };
+    match kind {
+        1 => {
+            let mut inside = *working;
+            inside[slot] = true;
+            let place = view::fields_place(image, body);
+            compute_message_wire_size(image, starts, frame, rows, place, &inside)
+        }
+        4 => {
+            let mut inside = *working;
+            inside[slot] = true;
+            let place = view::variants_place(image, body);
+            compute_union_wire_size(image, starts, frame, rows, place, &inside)
+        }
+        5 => {
+            let place = view::terminal_place(image, body, frame.names);
+            let term = compute_resolved_type_wire_size(image, starts, frame, rows, place, working);
+            term.worked
+        }
+        _ => Worked::Sized(Size::Open(0)),
+    }
+}
+
+// A field: its type, unless Varint or ZigZag governs it.
+fn compute_type_wire_size(
+    image: &[u8],
+    starts: &[usize],
+    frame: Frame,
+    rows: &[u64],
+    at: usize,
+    working: &[bool; 512],
+) -> Walked
+    requires { ⌜ Asked (fieldAt (frame .names)) (now image) (now starts) frame (now rows) (now working) at ⌝ }
+    ensures { λ r. ⌜ Walks (fieldAt (frame .names)) fieldSize (now (image .entry)) (now (rows .entry)) (now (working .entry)) at r ⌝ }
+{
+    match field_type(image, at, frame.names) {
+        Coded::Plain(p) => {
+            compute_resolved_type_wire_size(image, starts, frame, rows, p, working)
+        }
+        Coded::Varint(p) => varint_type(image, p, frame.names),
+        Coded::ZigZag(p) => zigzag_type(image, p, frame.names),
+    }
+}
+
+// A message, from the count of its fields on.
+fn compute_message_wire_size(
+    image: &[u8],
+    starts: &[usize],
+    frame: Frame,
+    rows: &[u64],
+    at: usize,
+    working: &[bool; 512],
+) -> Worked
+    requires { ⌜ Asked (fieldsAt (frame .names)) (now image) (now starts) frame (now rows) (now working) at ⌝ }
+    ensures { λ r. ⌜ WorksOut (fieldsAt (frame .names)) fieldsSize (now (image .entry)) (now (rows .entry)) (now (working .entry)) at r ⌝ }
+{
+    let Ranged::Value(count, first) = number::read_below(image, at, 65537) else {
+        return Worked::Over;
+    };
+    let mut total = Size::Fixed(0);
+    let mut here = first;
+    let mut left = count;
+    while 0 < left {
+        let field = compute_type_wire_size(image, starts, frame, rows, here, working);
+        let worked = field.worked;
+        match measures::add_field(total, worked) {
+            Worked::Sized(sum) => {
+                total = sum;
+                here = field.next;
+            }
+            Worked::Over => return Worked::Over,
+        }
+        left -= 1;
+    }
+    Worked::Sized(total)
+}
+
+// A union, from the count of its variants on. The first total above the limit ends variants and fields together.
+fn compute_union_wire_size(
+    image: &[u8],
+    starts: &[usize],
+    frame: Frame,
+    rows: &[u64],
+    at: usize,
+    working: &[bool; 512],
+) -> Worked
+    requires { ⌜ Asked (variantsAt (frame .names)) (now image) (now starts) frame (now rows) (now working) at ⌝ }
+    ensures { λ r. ⌜ WorksOut (variantsAt (frame .names)) unionSize (now (image .entry)) (now (rows .entry)) (now (working .entry)) at r ⌝ }
+{
+    let Ranged::Value(count, first) = number::read_below(image, at, 65537) else {
+        return Worked::Over;
+    };
+    let mut extremes = Size::Bounded(18446744073709551615, 0);
+    let mut here = first;
+    let mut over = false;
+    let mut left = count;
+    'variants: while 0 < left {
+        let Ranged::Value(fields, after) = number::read_below(image, here, 65537) else {
+            return Worked::Over;
+        };
+        here = after;
+        let mut total = Size::Fixed(0);
+        let mut more = fields;
+        while 0 < more {
+            let field = compute_type_wire_size(image, starts, frame, rows, here, working);
+            let worked = field.worked;
+            match measures::add_field(total, worked) {
+                Worked::Sized(sum) => {
+                    total = sum;
+                    here = field.next;
+                }
+                Worked::Over => {
+                    over = true;
+                    break 'variants;
+                }
+            }
+            more -= 1;
+        }
+        extremes = measures::widen(extremes, total);
+        left -= 1;
+    }
+    if over {
+        return Worked::Over;
+    }
+    measures::tag(extremes)
+}
+
+fn turn_from(worked: Worked) -> Turned
+    ensures { λ r. ⌜ r ≡ turnedAs worked ⌝ }
+{
+    match worked {
+        Worked::Sized(size) => Turned::Sized(size),
+        Worked::Over => Turned::Over,
+    }
+}
+
+// A declared slot at its turn, itself being worked out.
+pub fn own_size(image: &[u8], starts: &[usize], frame: Frame, rows: &[u64], slot: usize) -> Turned
+    requires { ⌜ Promise (now image) (now starts) frame × (slot < frame .slots) × (3 * frame .slots ≤ length (now rows)) ⌝ }
+    ensures { λ r. ⌜ Owns (now (image .entry)) (now (rows .entry)) slot r ⌝ }
+{
+    let Part::At(kind, body) = view::slot_part(image, starts, slot) else {
+        return Turned::Other;
+    };
+    let mut own = [false; 512];
+    own[slot] = true;
+    match kind {
+        1 => {
+            let place = view::fields_place(image, body);
+            turn_from(compute_message_wire_size(image, starts, frame, rows, place, &own))
+        }
+        4 => {
+            let place = view::variants_place(image, body);
+            turn_from(compute_union_wire_size(image, starts, frame, rows, place, &own))
+        }
+        _ => Turned::Other,
+    }
+}
