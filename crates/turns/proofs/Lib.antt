@@ -1,3 +1,2 @@
-pub mod Fitting
 pub mod Turning
 pub mod Saying

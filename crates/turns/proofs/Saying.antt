@@ -1,7 +1,7 @@
 -- From the turns to the answer and the table that the caller holds. Assumes nothing.
 use Prim.Native.Nat.{ℕ, _*_, _≤_, _<_}
-use mathlib.Core.Path.{_≡_, refl, sym, ap, subst, _∙_}
-use mathlib.Core.List.{List, [], _++_}
+use mathlib.Core.Path.{_≡_, sym, ap, subst, _∙_}
+use mathlib.Core.List.{List, []}
 use native.Mathlib.Omega.{arith}
 use lib.ListN.{length, replicate, length-replicate}
 use lib.Seq.{sets, length-sets}
@@ -10,17 +10,16 @@ use Rattle.image.specs.Schema.{Schema}
 use Rattle.image.specs.declared.Frame.{Frame}
 use Rattle.reader.specs.Reading.{readingOf, schemaOf}
 use Rattle.reader.specs.declared.Reading.{Reading}
-use Rattle.sizes.specs.Names.{State}
 use Rattle.sizes.specs.Check.{Checked, checkSizes, tableOf}
 use Rattle.sizes.specs.Check as check
 use Rattle.sizes.specs.Demand.{Demand3}
 use Rattle.sizes.specs.Whole.{demand3}
 use Rattle.rows.proofs.Table.{table-length}
-use Rattle.turns.specs.Fitted.{fitted}
+use Rattle.table.specs.Fitted.{fitted}
 use Rattle.turns.specs.Sizing.{verdict, rowsIn, sizingIn, sizeRowsIn, sizingOf, sizesOf, Answered, SizesSaid, Through}
 use Rattle.turns.specs.declared.Sizing.{Sizing}
 use Rattle.turns.specs.declared.Passed.{Passed}
-use Rattle.turns.proofs.Fitting.{fitted-written, fitted-front}
+use Rattle.table.proofs.Fitting.{fitted-written, fitted-front}
 
 not-accepted : {n p : ℕ} → Sizing.Refused n p ≡ Sizing.Accepted → ⊥
 not-accepted e = let z : _≡_ {A = ℕ} 0 1 = cc in omega arith

@@ -1,14 +1,14 @@
 -- A turn, and the turns in order, by the code's steps. Assumes nothing.
-use Prim.Native.Nat.{ℕ, zero, suc, _+_, _-_, _*_, _^_, _≤_, _<_}
+use Prim.Native.Nat.{ℕ, suc, _+_, _-_, _*_, _^_, _≤_, _<_}
 use mathlib.Core.Path.{_≡_, refl, sym, ap, subst, _∙_}
-use mathlib.Core.List.{List, [], _∷_}
+use mathlib.Core.List.{List, _∷_}
 use mathlib.Core.Bool.{Bool, true, false}
-use mathlib.Core.Option.{Option, none, some}
+use mathlib.Core.Option.{none, some}
 use native.Mathlib.Omega.{arith}
 use lib.ListN.{length, getD, List·getD-eq-default}
 use lib.Seq.{sets}
-use Rattle.number.specs.Grammar.{slot, number, many, Outcome, done, refused, below, read}
-use Rattle.number.proofs.Reading.{not-done, given, read-number, front, many-length}
+use Rattle.number.specs.Grammar.{slot, number, many, done, refused, below, read}
+use Rattle.number.proofs.Reading.{not-done, given, read-number, front}
 use Rattle.slot.specs.Slot.{Slot, empty, message, enum, flags, union, newtype, config, alias, trait, impl}
 use Rattle.image.specs.Schema.{Schema, slotOf}
 use Rattle.sizes.specs.declared.Size.{Size}
@@ -16,7 +16,7 @@ use Rattle.sizes.specs.declared.Worked.{Worked}
 use Rattle.sizes.specs.declared.Worked.the-variants.{Sized, Over}
 use Rattle.sizes.specs.Sizes.{Resolver}
 use Rattle.sizes.specs.Names.{State, contentIn, contentOf}
-use Rattle.sizes.specs.Check.{Checked, bodySize, ownSize, store, storing, turn, onward, turns, checkSizes, brought, tableOf, sizeRow}
+use Rattle.sizes.specs.Check.{bodySize, ownSize, store, storing, turn, onward, turns, checkSizes, brought, tableOf, sizeRow}
 use Rattle.sizes.specs.Check as check
 use Rattle.sizes.specs.Demand.{Sizable, isMessage, isUnion}
 use Rattle.rows.proofs.Table.{place-is, stored}

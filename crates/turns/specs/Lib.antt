@@ -1,2 +1,1 @@
-pub mod Fitted
 pub mod Sizing

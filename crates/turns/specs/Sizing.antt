@@ -13,7 +13,7 @@ use Rattle.reader.specs.declared.Reading.{Reading}
 use Rattle.sizes.specs.Names.{State}
 use Rattle.sizes.specs.Check.{Checked, accepted, refused, turn, checkSizes, tableOf}
 use Rattle.sizes.specs.Demand.{Demand3}
-use Rattle.turns.specs.Fitted.{fitted}
+use Rattle.table.specs.Fitted.{fitted}
 use Rattle.turns.specs.declared.Sizing.{Sizing}
 use Rattle.turns.specs.declared.Passed.{Passed}
 

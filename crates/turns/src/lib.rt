@@ -4,15 +4,14 @@ use number::Ranged;
 use reader::Reading;
 use wiresize::Turned;
 ghost use mathlib.Core.Path.{_≡_};
-ghost use mathlib.Core.List.{List, []};
+ghost use mathlib.Core.List.{List};
 ghost use Prim.Native.Nat.{ℕ, _*_, _≤_};
-ghost use lib.ListN.{length, getD, replicate};
+ghost use lib.ListN.{length};
 ghost use lib.Seq.{sets};
 ghost use Rattle.reader.specs.Reading.{schemaOf};
 ghost use Rattle.reader.specs.Promise.{Promise};
 ghost use Rattle.sizes.specs.Names.{State};
 ghost use Rattle.sizes.specs.Check.{brought, tableOf};
-ghost use Rattle.turns.specs.Fitted.{fitted};
 ghost use Rattle.turns.specs.Sizing.{Answered, SizesSaid, TurnTaken, Through};
 
 // Accepted, or a refusal from 1 to 11 with its place.
@@ -71,52 +70,24 @@ fn take_turns(image: &[u8], starts: &[usize], frame: Frame, rows: &mut [u64]) ->
     Passed::All
 }
 
-fn place_of(table: &[u64], i: usize) -> u64
-    ensures { λ r. ⌜ r ≡ getD (now (table .entry)) i 0 ⌝ }
-{
-    if i < table.len() { table[i] } else { 0 }
-}
-
-// Writes a table into one of another length.
-fn fit(table: &[u64], into: &mut [u64])
-    ensures { λ _. ⌜ now (into .exit) ≡ fitted (length (now (into .entry))) (now (table .entry)) ⌝ }
-{
-    let mut i: usize = 0;
-    while i < into.len() {
-        into[i] = place_of(table, i);
-        i += 1;
-    }
-}
-
-// All zero.
-fn clear(sizes: &mut [u64])
-    ensures { λ _. ⌜ now (sizes .exit) ≡ fitted (length (now (sizes .entry))) [] ⌝ }
-{
-    let mut i: usize = 0;
-    while i < sizes.len() {
-        sizes[i] = 0;
-        i += 1;
-    }
-}
-
 // An accepted image: refusals 10 and 11, or the table.
 fn size_slots(image: &[u8], starts: &[usize], frame: Frame, sizes: &mut [u64]) -> Sizing
     requires { ⌜ Promise (now image) (now starts) frame ⌝ }
     ensures { λ r. ⌜ SizesSaid (now (image .entry)) (now (sizes .entry)) (now (sizes .exit)) r ⌝ }
 {
     if (sizes.len() as u64) < 3 * frame.slots {
-        clear(sizes);
+        table::clear(sizes);
         return Sizing::Refused(10, 0);
     }
     let mut rows = [0u64; 1536];
     rows::fill_rows(image, starts, frame, &mut rows);
     match take_turns(image, starts, frame, &mut rows) {
         Passed::All => {
-            fit(&rows, sizes);
+            table::fit(&rows, sizes);
             Sizing::Accepted
         }
         Passed::Over(slot) => {
-            clear(sizes);
+            table::clear(sizes);
             Sizing::Refused(11, slot)
         }
     }
@@ -130,7 +101,7 @@ pub fn compute_sizes(image: &[u8], sizes: &mut [u64]) -> Sizing
     match reader::read_into(image, &mut starts) {
         Reading::Accepted(frame) => size_slots(image, &starts, frame, sizes),
         Reading::Refused(r, q) => {
-            clear(sizes);
+            table::clear(sizes);
             Sizing::Refused(r, q as u64)
         }
     }

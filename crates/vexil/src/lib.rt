@@ -1,9 +1,14 @@
 // What C and Rust programs link.
 use reader::Reading;
+use turns::Sizing;
 ghost use mathlib.Core.Path.{_≡_};
 ghost use lib.ListN.{length, getD};
-ghost use Rattle.reader.specs.Reading.{readingOf};
-ghost use Rattle.vexil.specs.Answer.{numberOf, valueOf, fitted, startsIn};
+ghost use Rattle.reader.specs.Reading.{readingOf, schemaOf};
+ghost use Rattle.table.specs.Fitted.{fitted};
+ghost use Rattle.sizes.specs.Demand.{Demand3};
+ghost use Rattle.turns.specs.Sizing.{sizingOf, sizesOf};
+ghost use Rattle.turns.specs.declared.Sizing.{Sizing};
+ghost use Rattle.vexil.specs.Answer.{numberOf, valueOf, sizingNumber, sizingValue, startsIn};
 
 // `number` is 0 for an accepted image, and `value` then counts its slots; else they are a refusal's number and place.
 #[repr(C)]
@@ -46,6 +51,23 @@ pub extern "C" fn vexil_read(image: &[u8], starts: &mut [usize]) -> Answer
         Reading::Refused(number, place) => Answer {
             number: number as u64,
             value: place as u64,
+        },
+    }
+}
+
+// Widths and sizes of an image: three numbers a slot in the table.
+#[no_mangle]
+pub extern "C" fn vexil_sizes(image: &[u8], sizes: &mut [u64]) -> Answer
+    ensures { λ r. ⌜ (r .number ≡ sizingNumber (sizingOf (length (now (sizes .entry))) (now (image .entry)))) × (r .value ≡ sizingValue (sizingOf (length (now (sizes .entry))) (now (image .entry)))) × (now (sizes .exit) ≡ sizesOf (length (now (sizes .entry))) (now (image .entry))) × (sizingOf (length (now (sizes .entry))) (now (image .entry)) ≡ Sizing.Accepted → Demand3 (schemaOf (now (image .entry))) (now (sizes .exit))) ⌝ }
+{
+    match turns::compute_sizes(image, sizes) {
+        Sizing::Accepted => Answer {
+            number: 0,
+            value: 0,
+        },
+        Sizing::Refused(number, place) => Answer {
+            number: number as u64,
+            value: place,
         },
     }
 }

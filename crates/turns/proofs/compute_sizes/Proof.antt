@@ -1,14 +1,7 @@
-use native.Mathlib.Omega.{arith}
-use mathlib.Core.Path.{sym, ap, _∙_}
 use Rattle.turns.proofs.Saying.{read-said, refused-said}
 use borrow.Author.Needs.{needs}
 use Rattle.turns.proofs.compute_sizes.Statement.{statement}
 use Rattle.turns.proofs.compute_sizes.Tie as tie
-use Rattle.turns.proofs.compute_sizes.Reads as reads
-use Rattle.turns.proofs.compute_sizes.Lts as lts
-use Rattle.reader.proofs.read_into.Reads as read-into-reads
-use Rattle.turns.proofs.clear.Reads as clear-reads
-use Rattle.turns.proofs.size_slots.Reads as size-slots-reads
 
 -- src/lib.rt:130:36
 slice-aggregate-read-into : tie.Need-slice-aggregate-read-into

@@ -7,12 +7,6 @@ use Rattle.turns.proofs.Saying.{few-places, passed-limit, all-passed, a
 use borrow.Author.Needs.{needs}
 use Rattle.turns.proofs.size_slots.Statement.{statement}
 use Rattle.turns.proofs.size_slots.Tie as tie
-use Rattle.turns.proofs.size_slots.Reads as reads
-use Rattle.turns.proofs.size_slots.Lts as lts
-use Rattle.rows.proofs.fill_rows.Reads as fill-rows-reads
-use Rattle.turns.proofs.clear.Reads as clear-reads
-use Rattle.turns.proofs.fit.Reads as fit-reads
-use Rattle.turns.proofs.take_turns.Reads as take-turns-reads
 
 -- src/lib.rt:107:31
 mul-if1 : tie.Need-mul-if1

@@ -3,11 +3,6 @@ use Rattle.turns.proofs.Turning.{holds, beyond, other, over, sized}
 use borrow.Author.Needs.{needs}
 use Rattle.turns.proofs.take_turn.Statement.{statement}
 use Rattle.turns.proofs.take_turn.Tie as tie
-use Rattle.turns.proofs.take_turn.Reads as reads
-use Rattle.turns.proofs.take_turn.Lts as lts
-use Rattle.rows.proofs.put_row.Reads as put-row-reads
-use Rattle.rows.proofs.size_row.Reads as size-row-reads
-use Rattle.wiresize.proofs.own_size.Reads as own-size-reads
 
 -- src/lib.rt:50:9
 returns : tie.Need-returns

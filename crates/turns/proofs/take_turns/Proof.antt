@@ -6,10 +6,6 @@ use Rattle.reader.specs.Reading.{schemaOf}
 use Rattle.turns.proofs.Turning.{Going, first-turn, last-turn, stop-turn, over-turn, next-turn}
 use Rattle.turns.proofs.take_turns.Statement.{statement}
 use Rattle.turns.proofs.take_turns.Tie as tie
-use Rattle.turns.proofs.take_turns.Reads as reads
-use Rattle.turns.proofs.take_turns.Lts as lts
-use Rattle.number.proofs.read_below.Reads as read-below-reads
-use Rattle.turns.proofs.take_turn.Reads as take-turn-reads
 
 abbrev Inv-loop : tie.InvT-loop
 Inv-loop image starts frame rows₀ left₀ p₀ rows left p = Going image (schemaOf image) rows₀ rows p left

@@ -2,7 +2,7 @@ use borrow.Author.Needs.{needs}
 use native.Mathlib.Omega.{arith}
 use Prim.Native.Nat.{_-_}
 use lib.ListN.{length}
-use Rattle.vexil.proofs.Fitting.{Written, none-written, one-written, all-written}
+use Rattle.table.proofs.Fitting.{Written, none-written, one-written, all-written}
 use Rattle.vexil.proofs.fit.Statement.{statement}
 use Rattle.vexil.proofs.fit.Tie as tie
 

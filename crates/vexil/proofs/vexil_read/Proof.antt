@@ -1,5 +1,6 @@
 use mathlib.Core.Path.{sym, ap, _∙_}
-use Rattle.vexil.specs.Answer.{numberOf, valueOf, fitted}
+use Rattle.table.specs.Fitted.{fitted}
+use Rattle.vexil.specs.Answer.{numberOf, valueOf}
 use borrow.Author.Needs.{needs}
 use Rattle.vexil.proofs.vexil_read.Statement.{statement}
 use Rattle.vexil.proofs.vexil_read.Tie as tie

@@ -7,15 +7,15 @@ use native.Mathlib.Omega.{arith}
 use native.Mathlib.Decide.{decLt, ℕ-discrete}
 use lib.ListN.{length, getD, set, drop, replicate, length-set, length-replicate, List·getD-append, List·getD-eq-default}
 use lib.Seq.{sets, sets-eq, ext-getD, getD-set-same, getD-set-other, getD-append-add, getD-drop}
-use Rattle.turns.specs.Fitted.{fitted}
+use Rattle.table.specs.Fitted.{fitted}
 
-fitted-length : (n : ℕ) (l : List ℕ) → length (fitted n l) ≡ n
+pub fitted-length : (n : ℕ) (l : List ℕ) → length (fitted n l) ≡ n
 unfolding fitted
 fitted-length zero l = refl
 fitted-length (suc n) [] = ap suc (fitted-length n [])
 fitted-length (suc n) (x ∷ l) = ap suc (fitted-length n l)
 
-fitted-at : (n : ℕ) (l : List ℕ) (i : ℕ) → i < n → getD (fitted n l) i 0 ≡ getD l i 0
+pub fitted-at : (n : ℕ) (l : List ℕ) (i : ℕ) → i < n → getD (fitted n l) i 0 ≡ getD l i 0
 unfolding fitted
 fitted-at zero l i h = absurd (omega arith)
 fitted-at (suc n) [] zero h = refl
@@ -84,3 +84,10 @@ unfolding fitted
 fitted-front n [] h = (fitted n [], refl)
 fitted-front zero (x ∷ l) h = absurd (omega arith)
 fitted-front (suc n) (x ∷ l) h = let r = fitted-front n l (omega arith) in (r .0, ap (λ (k : List ℕ). x ∷ k) (r .1))
+
+-- a list that grows by one
+pub fitted-next : (n : ℕ) (l : List ℕ) (v : ℕ) → set (fitted n l) (length l) v ≡ fitted n (l ++ (v ∷ []))
+unfolding fitted
+fitted-next zero l v = refl
+fitted-next (suc n) [] v = refl
+fitted-next (suc n) (x ∷ l) v = ap (λ (k : List ℕ). x ∷ k) (fitted-next n l v)

@@ -1,0 +1,6 @@
+pub mod Finding
+pub mod Endless
+pub mod Meaning
+pub mod Compatible
+pub mod Conformance
+pub mod Findings
