@@ -71,7 +71,7 @@ fn take_turns(image: &[u8], starts: &[usize], frame: Frame, rows: &mut [u64]) ->
 }
 
 // An accepted image: refusals 10 and 11, or the table.
-fn size_slots(image: &[u8], starts: &[usize], frame: Frame, sizes: &mut [u64]) -> Sizing
+pub fn size_slots(image: &[u8], starts: &[usize], frame: Frame, sizes: &mut [u64]) -> Sizing
     requires { ⌜ Promise (now image) (now starts) frame ⌝ }
     ensures { λ r. ⌜ SizesSaid (now (image .entry)) (now (sizes .entry)) (now (sizes .exit)) r ⌝ }
 {
