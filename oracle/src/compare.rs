@@ -1,12 +1,13 @@
-//! Runs two readers over the same images and stops at a difference.
+//! Runs the library over images beside the Rust and stops at a difference.
 
 use std::ops::ControlFlow;
 use std::sync::atomic::{AtomicBool, Ordering};
 
-use crate::generate::batch;
-use crate::reading::{by_importer, Reader, Reading};
+use crate::answer::{Answer, Whole, PROGRAM_PLACES};
+use crate::generate::{batch, Families};
+use crate::library::{calls, expected, Call, Library, Reply};
 use crate::shrink::shrink;
-use crate::tally::Tally;
+use crate::tally::{Tally, COLUMNS, TOO_LONG};
 use crate::workers::{in_parallel, THREADS};
 
 /// Which images to run over.
@@ -14,22 +15,25 @@ use crate::workers::{in_parallel, THREADS};
 pub struct Selection {
     pub count: u64,
     pub seed: u64,
-    /// One family, or all.
-    pub family: Option<usize>,
+    pub families: Families,
 }
 
-/// An image, as small as could be found, that two readers answer differently.
+/// An image, as small as could be found, and a call that answers it wrongly.
 #[derive(Debug, Clone, PartialEq)]
 pub struct Difference {
     pub image: Vec<u8>,
-    pub importer: Reading,
-    pub ours: Reading,
+    pub call: Call,
+    pub expected: Reply,
+    pub ours: Reply,
 }
 
 /// What a run met.
 #[derive(Debug, Default)]
 pub struct Outcome {
+    /// Images, by the answer with the places of the program.
     pub tally: Tally,
+    /// Calls, by the number that they had to answer.
+    pub calls: [u64; COLUMNS],
     pub difference: Option<Difference>,
 }
 
@@ -37,6 +41,9 @@ fn joined(outcomes: Vec<Outcome>) -> Outcome {
     let mut all = Outcome::default();
     for outcome in outcomes {
         all.tally.add(&outcome.tally);
+        for (count, more) in all.calls.iter_mut().zip(outcome.calls) {
+            *count += more;
+        }
         all.difference = all.difference.or(outcome.difference);
     }
     all
@@ -53,7 +60,8 @@ pub fn each_image(
     let mut left = share;
     let mut number = worker;
     while left > 0 {
-        batch(selection.seed, number, selection.family, |family, image| {
+        let families = selection.families;
+        batch(selection.seed, number, families, |family, image| {
             if left > 0 {
                 left -= 1;
                 if visit(family, image).is_break() {
@@ -65,8 +73,8 @@ pub fn each_image(
     }
 }
 
-/// Compares a reader with the importer on generated images.
-pub fn compare(selection: Selection, ours: Reader) -> Outcome {
+/// Compares a library with the Rust on generated images.
+pub fn compare(selection: Selection, ours: Library) -> Outcome {
     let stop = AtomicBool::new(false);
     joined(in_parallel(|worker| {
         let mut pair = Pair::new(ours);
@@ -78,7 +86,7 @@ pub fn compare(selection: Selection, ours: Reader) -> Outcome {
 }
 
 /// Compares on all images of up to `bytes` bytes; the family does not count.
-pub fn exhaustive(bytes: usize, ours: Reader) -> Outcome {
+pub fn exhaustive(bytes: usize, ours: Library) -> Outcome {
     let stop = AtomicBool::new(false);
     joined(in_parallel(|worker| {
         let mut pair = Pair::new(ours);
@@ -113,27 +121,25 @@ fn advance(image: &mut [u8]) -> bool {
 }
 
 struct Pair {
-    ours: Reader,
-    importer_reading: Reading,
+    ours: Library,
     outcome: Outcome,
 }
 
 impl Pair {
-    fn new(ours: Reader) -> Self {
+    fn new(ours: Library) -> Self {
         Self {
             ours,
-            importer_reading: Reading::unset(),
             outcome: Outcome::default(),
         }
     }
 
     fn run(&mut self, image: &[u8], family: usize, stop: &AtomicBool) -> ControlFlow<()> {
-        by_importer(image, &mut self.importer_reading);
-        let mut ours_reading = Reading::unset();
-        (self.ours)(image, &mut ours_reading);
-        let column = self.importer_reading.number as usize;
+        let whole = worked_out(image, self.ours);
+        let column = column(&whole, self.ours);
         self.outcome.tally.count(family, column);
-        if ours_reading != self.importer_reading {
+        self.outcome.tally.deepen(whole.deepest);
+        let differs = first_difference(image, &whole, self.ours, &mut self.outcome.calls);
+        if differs.is_some() {
             stop.store(true, Ordering::Relaxed);
             self.outcome.difference = smallest_difference(image, self.ours);
         }
@@ -144,27 +150,62 @@ impl Pair {
     }
 }
 
-/// Shrinks an image while a reader differs from the importer on it; none if
-/// it does not differ to begin with.
-pub fn smallest_difference(image: &[u8], ours: Reader) -> Option<Difference> {
-    let both = |image: &[u8]| {
-        let (mut importer, mut other) = (Reading::unset(), Reading::unset());
-        by_importer(image, &mut importer);
-        ours(image, &mut other);
-        (importer, other)
-    };
-    let differs = |image: &[u8]| {
-        let (importer, other) = both(image);
-        importer != other
-    };
-    if !differs(image) {
-        return None;
+/// Findings are worked out only if the library has them.
+fn worked_out(image: &[u8], ours: Library) -> Whole {
+    match ours.check {
+        Some(_) => Whole::of(image),
+        None => Whole::sizes_of(image),
     }
-    let image = shrink(image, &differs);
-    let (importer, ours) = both(&image);
+}
+
+fn column(whole: &Whole, ours: Library) -> usize {
+    let answer = match ours.check {
+        Some(_) => whole.answer(PROGRAM_PLACES),
+        None => whole.sizes_answer(PROGRAM_PLACES.sizes),
+    };
+    match answer {
+        Ok(Answer::Accepted { .. }) => 0,
+        Ok(Answer::Refused { number, .. }) => number as usize,
+        Err(_) => TOO_LONG,
+    }
+}
+
+/// Makes all calls for an image, those aside whose answer would take too
+/// long, and counts them by what they have to answer.
+fn first_difference(
+    image: &[u8],
+    whole: &Whole,
+    ours: Library,
+    counts: &mut [u64; COLUMNS],
+) -> Option<(Call, Reply, Reply)> {
+    for call in calls(whole, ours.check.is_some()) {
+        let Ok(expected) = expected(whole, call) else {
+            counts[TOO_LONG] += 1;
+            continue;
+        };
+        counts[expected.verdict.number as usize] += 1;
+        let reply = ours.reply(image, call);
+        if reply != expected {
+            return Some((call, expected, reply));
+        }
+    }
+    None
+}
+
+/// Shrinks an image while the library answers it wrongly; none if it does
+/// not to begin with.
+pub fn smallest_difference(image: &[u8], ours: Library) -> Option<Difference> {
+    let difference = |image: &[u8]| {
+        let whole = worked_out(image, ours);
+        first_difference(image, &whole, ours, &mut [0; COLUMNS])
+    };
+    difference(image)?;
+    let image = shrink(image, &|tried| difference(tried).is_some());
+    let (call, expected, ours) = difference(&image)?;
     Some(Difference {
         image,
-        importer,
+        call,
+        expected,
         ours,
     })
 }

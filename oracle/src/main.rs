@@ -2,7 +2,7 @@
 
 use std::fs::File;
 use std::io::{self, BufWriter, Read, Write};
-use std::process::ExitCode;
+use std::process::{Command, ExitCode};
 use std::time::Instant;
 
 use oracle::answer::{answer, lines, PROGRAM_PLACES};
@@ -10,20 +10,27 @@ use oracle::bench::bench;
 use oracle::compare::{compare, exhaustive, smallest_difference, Difference, Outcome, Selection};
 use oracle::example::bond_report;
 use oracle::export::export;
-use oracle::generate::{family_named, FAMILIES};
-use oracle::reading::{Reader, Reading};
-use oracle::record::record;
+use oracle::format::SLOT_LIMIT;
+use oracle::generate::{family_named, Families, FAMILIES};
+use oracle::library::{Call, Library, Verdict};
+use oracle::program;
+use oracle::record::{record, record_lines};
+use oracle::stack::{self, Subject};
 use oracle::survey::survey;
+use oracle::tally::{COLUMNS, TOO_LONG};
 use oracle::workers::on_long_stack;
 
 const USAGE: &str = "\
-oracle compare --count N --seed S [--family F]   ours and the importer on generated images
-oracle exhaustive --bytes N                      ours and the importer on all short images
+oracle compare --count N --seed S [--family F]   ours and the Rust on generated images
+oracle exhaustive --bytes N                      ours and the Rust on all short images
 oracle read < image                              what ours answers, and where the slots start
 oracle shrink < image                            the smallest image that differs like this one
 oracle survey --count N --seed S [--family F]    whole answers of the Rust alone, counted
-oracle record --count N --seed S --out FILE      images and the importer's answers
-oracle bench                                     times of reading, with their ratio
+oracle record --count N --seed S --out FILE      images and how they are read
+oracle record-lines --count N --seed S --out FILE  images and the lines of vexcheck
+oracle program --binary FILE --count N --seed S  a vexcheck and the Rust on generated images
+oracle bench                                     times of reading, sizes, check; ratios
+oracle stack                                     least stack on which deep images are answered
 oracle answer < image                            the lines of vexcheck
 oracle export-example > image                    the bond report as an image
 oracle families                                  the families of generated images
@@ -57,7 +64,10 @@ fn run(arguments: &[String]) -> Result<bool, Failure> {
         "shrink" => return run_shrink(),
         "survey" => return run_survey(options),
         "record" => run_record(options)?,
-        "bench" => bench(ours().ok()),
+        "record-lines" => run_record_lines(options)?,
+        "program" => return run_program(options),
+        "bench" => on_long_stack(|| bench(ours().ok())),
+        "stack" => return run_stack(options),
         "answer" => run_answer()?,
         "export-example" => io::stdout().write_all(&export(&bond_report())?)?,
         "families" => FAMILIES
@@ -69,12 +79,12 @@ fn run(arguments: &[String]) -> Result<bool, Failure> {
 }
 
 #[cfg(feature = "ours")]
-fn ours() -> Result<Reader, Failure> {
-    Ok(oracle::ours::read)
+fn ours() -> Result<Library, Failure> {
+    Ok(oracle::ours::OURS)
 }
 
 #[cfg(not(feature = "ours"))]
-fn ours() -> Result<Reader, Failure> {
+fn ours() -> Result<Library, Failure> {
     Err("built without the feature `ours`".into())
 }
 
@@ -90,14 +100,14 @@ fn number(options: &[String], name: &str) -> Result<u64, Failure> {
 }
 
 fn selection(options: &[String]) -> Result<Selection, Failure> {
-    let family = match option(options, "--family") {
-        None => None,
-        Some(name) => Some(family_named(name).ok_or_else(|| format!("no family {name}"))?),
+    let families = match option(options, "--family") {
+        None => Families::All,
+        Some(name) => Families::One(family_named(name).ok_or_else(|| format!("no family {name}"))?),
     };
     Ok(Selection {
         count: number(options, "--count")?,
         seed: number(options, "--seed")?,
-        family,
+        families,
     })
 }
 
@@ -119,31 +129,47 @@ fn run_exhaustive(options: &[String]) -> Result<bool, Failure> {
     let (bytes, ours) = (number(options, "--bytes")?, ours()?);
     let start = Instant::now();
     let outcome = exhaustive(bytes as usize, ours);
-    for (number, count) in outcome.tally.totals().iter().enumerate() {
-        if *count > 0 {
-            println!("answered {number}: {count}");
-        }
-    }
+    println!("images {}", by_number(&outcome.tally.totals()));
     Ok(report("exhaustive", &outcome, start))
 }
 
 fn run_read() -> Result<(), Failure> {
-    let mut reading = Reading::unset();
-    ours()?(&image_from_input()?, &mut reading);
-    if reading.number != 0 {
-        println!("refused {} {}", reading.number, reading.value);
+    let (image, ours) = (image_from_input()?, ours()?);
+    let call = Call::Read {
+        starts: SLOT_LIMIT as usize,
+    };
+    let reply = ours.reply(&image, call);
+    let Verdict { number, value } = reply.verdict;
+    if number != 0 {
+        println!("refused {number} {value}");
         return Ok(());
     }
-    println!("accepted, {} slots", reading.value);
-    for (slot, start) in reading.starts[..reading.value as usize].iter().enumerate() {
+    println!("accepted, {value} slots");
+    for (slot, start) in reply.table[..value as usize].iter().enumerate() {
         println!("slot {slot} at byte {start}");
     }
     Ok(())
 }
 
+/// Searches, or answers one case as a process of its own.
+fn run_stack(options: &[String]) -> Result<bool, Failure> {
+    let ours = ours().ok();
+    let Some(name) = option(options, "--subject") else {
+        return Ok(stack::search(ours)?);
+    };
+    let subject = Subject::ALL.into_iter().find(|one| one.name() == name);
+    let subject = subject.ok_or_else(|| format!("no subject {name}"))?;
+    let cases = stack::cases();
+    let case = cases.get(number(options, "--case")? as usize);
+    let case = case.ok_or("no such case")?;
+    stack::run(case, subject, ours, number(options, "--kib")?);
+    Ok(true)
+}
+
 fn run_shrink() -> Result<bool, Failure> {
     let image = image_from_input()?;
-    let difference = smallest_difference(&image, ours()?);
+    let ours = ours()?;
+    let difference = on_long_stack(|| smallest_difference(&image, ours));
     match &difference {
         None => println!("no difference"),
         Some(difference) => print_difference(difference),
@@ -165,12 +191,48 @@ fn run_survey(options: &[String]) -> Result<bool, Failure> {
     Ok(survey.failed.is_none())
 }
 
-fn run_record(options: &[String]) -> Result<(), Failure> {
+fn output_file(options: &[String]) -> Result<BufWriter<File>, Failure> {
     let name = option(options, "--out").ok_or("--out is missing")?;
-    let mut out = BufWriter::new(File::create(name)?);
-    record(selection(options)?, &mut out)?;
+    Ok(BufWriter::new(File::create(name)?))
+}
+
+fn run_record(options: &[String]) -> Result<(), Failure> {
+    let mut out = output_file(options)?;
+    let selection = Selection {
+        families: Families::Reading,
+        ..selection(options)?
+    };
+    record(selection, &mut out)?;
     out.flush()?;
     Ok(())
+}
+
+fn run_record_lines(options: &[String]) -> Result<(), Failure> {
+    let mut out = output_file(options)?;
+    record_lines(selection(options)?, &mut out)?;
+    out.flush()?;
+    Ok(())
+}
+
+fn run_program(options: &[String]) -> Result<bool, Failure> {
+    let binary = option(options, "--binary").ok_or("--binary is missing")?;
+    let selection = selection(options)?;
+    let start = Instant::now();
+    let outcome = program::run(selection, &|| Command::new(binary))?;
+    if let Some(wrong) = &outcome.wrong {
+        println!("image: {}", hex(&wrong.image));
+        println!("Rust:\n{}ours:\n{}", wrong.expected, wrong.written);
+    }
+    let seconds = start.elapsed().as_secs_f64();
+    let verdict = match outcome.wrong {
+        None => "no difference",
+        Some(_) => "DIFFERENT",
+    };
+    println!(
+        "program: {} images, {} left out as too long, {verdict}, {seconds:.1} s",
+        outcome.images, outcome.too_long
+    );
+    Ok(outcome.wrong.is_none())
 }
 
 fn run_answer() -> Result<(), Failure> {
@@ -190,6 +252,7 @@ fn report(command: &str, outcome: &Outcome, start: Instant) -> bool {
     if let Some(difference) = &outcome.difference {
         print_difference(difference);
     }
+    println!("calls {}", by_number(&outcome.calls));
     let images = outcome.tally.images();
     let seconds = start.elapsed().as_secs_f64();
     let verdict = match outcome.difference {
@@ -201,19 +264,23 @@ fn report(command: &str, outcome: &Outcome, start: Instant) -> bool {
     outcome.difference.is_none()
 }
 
-fn print_difference(difference: &Difference) {
-    println!("smallest image that differs: {}", hex(&difference.image));
-    println!("importer: {}", told(&difference.importer));
-    println!("ours:     {}", told(&difference.ours));
+/// Counts that are not 0, by the number answered.
+fn by_number(counts: &[u64; COLUMNS]) -> String {
+    let told = |(number, &count): (usize, &u64)| match number {
+        _ if count == 0 => None,
+        0 => Some(format!("accepted: {count}")),
+        TOO_LONG => Some(format!("too long, not made: {count}")),
+        number => Some(format!("refused {number}: {count}")),
+    };
+    let told: Vec<String> = counts.iter().enumerate().filter_map(told).collect();
+    told.join(", ")
 }
 
-fn told(reading: &Reading) -> String {
-    let used = reading.starts.iter().rposition(|&start| start != 0);
-    let starts = &reading.starts[..used.map_or(0, |last| last + 1)];
-    format!(
-        "number {}, value {}, starts {starts:?}, then zeros",
-        reading.number, reading.value
-    )
+fn print_difference(difference: &Difference) {
+    println!("smallest image that differs: {}", hex(&difference.image));
+    println!("call: {}", difference.call);
+    println!("Rust: {}", difference.expected);
+    println!("ours: {}", difference.ours);
 }
 
 fn hex(image: &[u8]) -> String {

@@ -1,12 +1,6 @@
 //! The ported library, linked with the feature `ours`.
 
-use crate::reading::{Reading, STARTS};
-
-#[repr(C)]
-struct Answer {
-    number: u64,
-    value: u64,
-}
+use crate::library::{Library, Verdict};
 
 extern "C" {
     fn vexil_read(
@@ -14,21 +8,63 @@ extern "C" {
         image_len: usize,
         starts: *mut usize,
         starts_len: usize,
-    ) -> Answer;
+    ) -> Verdict;
+
+    fn vexil_sizes(
+        image: *const u8,
+        image_len: usize,
+        sizes: *mut u64,
+        sizes_len: usize,
+    ) -> Verdict;
+
+    #[cfg(feature = "check")]
+    fn vexil_check(
+        image: *const u8,
+        image_len: usize,
+        sizes: *mut u64,
+        sizes_len: usize,
+        findings: *mut u32,
+        findings_len: usize,
+    ) -> Verdict;
 }
 
-/// The ported reader of images.
-pub fn read(image: &[u8], reading: &mut Reading) {
-    // SAFETY: both pointers come from slices and go with their lengths; the
-    // library reads the first, writes the second and keeps neither.
-    let answer = unsafe {
+pub const OURS: Library = Library {
+    read,
+    sizes,
+    #[cfg(feature = "check")]
+    check: Some(check),
+    #[cfg(not(feature = "check"))]
+    check: None,
+};
+
+// SAFETY of all calls: the pointers come from slices and go with their
+// lengths; the library reads the first, writes the others and keeps none.
+
+fn read(image: &[u8], starts: &mut [usize]) -> Verdict {
+    unsafe {
         vexil_read(
             image.as_ptr(),
             image.len(),
-            reading.starts.as_mut_ptr(),
-            STARTS,
+            starts.as_mut_ptr(),
+            starts.len(),
         )
-    };
-    reading.number = answer.number;
-    reading.value = answer.value;
+    }
+}
+
+fn sizes(image: &[u8], sizes: &mut [u64]) -> Verdict {
+    unsafe { vexil_sizes(image.as_ptr(), image.len(), sizes.as_mut_ptr(), sizes.len()) }
+}
+
+#[cfg(feature = "check")]
+fn check(image: &[u8], sizes: &mut [u64], findings: &mut [u32]) -> Verdict {
+    unsafe {
+        vexil_check(
+            image.as_ptr(),
+            image.len(),
+            sizes.as_mut_ptr(),
+            sizes.len(),
+            findings.as_mut_ptr(),
+            findings.len(),
+        )
+    }
 }

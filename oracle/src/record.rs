@@ -1,27 +1,52 @@
-//! A list of images and the importer's answers, for replay elsewhere.
+//! Lists of images and their answers, for replay elsewhere. A file is a
+//! sequence of records without header; all numbers are little-endian.
 //!
-//! The file is a sequence of records without header. A record is
+//! A record of reading is
 //!
-//! * the image's length (u32, little-endian) and its bytes,
-//! * the answer's number (u64, little-endian): 0 accepted, else the refusal,
-//! * its value (u64, little-endian): the slot count, else the place,
-//! * if the number is 0, the start of each slot (u32, little-endian each).
+//! * the image's length (u32) and its bytes,
+//! * the answer's number (u64): 0 accepted, else the refusal,
+//! * its value (u64): the slot count, else the place,
+//! * if the number is 0, the start of each slot (u32 each).
+//!
+//! A record of the whole check is
+//!
+//! * the image's length (u32) and its bytes,
+//! * the length (u32) and the bytes of what `vexcheck` writes for it.
 
 use std::io::{self, Write};
 use std::ops::ControlFlow;
 
+use crate::answer::{answer, lines, PROGRAM_PLACES};
 use crate::compare::{each_image, Selection};
-use crate::reading::{by_importer, Reading};
-use crate::workers::THREADS;
+use crate::import::import;
+use crate::specials::specials;
+use crate::workers::{on_long_stack, THREADS};
 
-/// Writes the images of a selection and their answers.
+/// Longest generated image that is recorded with its lines, and most bytes of
+/// these, so that the file stays small.
+const LONGEST: usize = 2_000;
+
+/// Writes the images of a selection and how they are read.
 pub fn record(selection: Selection, out: &mut dyn Write) -> io::Result<()> {
-    let mut reading = Reading::unset();
+    each(selection, &mut |image| write_record(image, out))
+}
+
+/// Writes the special images and those of a selection, each with its lines.
+/// Images that are long or take long are left out.
+pub fn record_lines(selection: Selection, out: &mut (dyn Write + Send)) -> io::Result<()> {
+    on_long_stack(|| {
+        for image in specials() {
+            write_lines(&image, usize::MAX, out)?;
+        }
+        each(selection, &mut |image| write_lines(image, LONGEST, out))
+    })
+}
+
+fn each(selection: Selection, write: &mut dyn FnMut(&[u8]) -> io::Result<()>) -> io::Result<()> {
     let mut result = Ok(());
     for worker in 0..THREADS {
         each_image(selection, worker, |_, image| {
-            by_importer(image, &mut reading);
-            result = write_record(image, &reading, out);
+            result = write(image);
             match result {
                 Ok(()) => ControlFlow::Continue(()),
                 Err(_) => ControlFlow::Break(()),
@@ -34,15 +59,34 @@ pub fn record(selection: Selection, out: &mut dyn Write) -> io::Result<()> {
     result
 }
 
-fn write_record(image: &[u8], reading: &Reading, out: &mut dyn Write) -> io::Result<()> {
-    out.write_all(&(image.len() as u32).to_le_bytes())?;
-    out.write_all(image)?;
-    out.write_all(&reading.number.to_le_bytes())?;
-    out.write_all(&reading.value.to_le_bytes())?;
-    if reading.number == 0 {
-        for start in &reading.starts[..reading.value as usize] {
-            out.write_all(&(*start as u32).to_le_bytes())?;
+fn write_lines(image: &[u8], longest: usize, out: &mut dyn Write) -> io::Result<()> {
+    if image.len() > longest {
+        return Ok(());
+    }
+    match answer(image, PROGRAM_PLACES).map(|answer| lines(&answer)) {
+        Ok(text) if text.len() <= longest => {
+            write_counted(image, out)?;
+            write_counted(text.as_bytes(), out)
         }
+        _ => Ok(()),
+    }
+}
+
+fn write_counted(bytes: &[u8], out: &mut dyn Write) -> io::Result<()> {
+    out.write_all(&(bytes.len() as u32).to_le_bytes())?;
+    out.write_all(bytes)
+}
+
+fn write_record(image: &[u8], out: &mut dyn Write) -> io::Result<()> {
+    let (number, value, starts) = match import(image) {
+        Ok(imported) => (0, imported.starts.len() as u64, imported.starts),
+        Err(refusal) => (refusal.number, refusal.place, Vec::new()),
+    };
+    write_counted(image, out)?;
+    out.write_all(&number.to_le_bytes())?;
+    out.write_all(&value.to_le_bytes())?;
+    for start in starts {
+        out.write_all(&start.to_le_bytes())?;
     }
     Ok(())
 }

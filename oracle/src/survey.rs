@@ -5,7 +5,7 @@
 use std::ops::ControlFlow;
 use std::panic::{catch_unwind, AssertUnwindSafe};
 
-use crate::answer::{answer, Answer, Places, PROGRAM_PLACES};
+use crate::answer::{Answer, Places, Whole, PROGRAM_PLACES};
 use crate::compare::{each_image, Selection};
 use crate::random::Random;
 use crate::tally::{Tally, TOO_LONG};
@@ -37,11 +37,12 @@ fn part(selection: Selection, worker: u64) -> Survey {
     let mut random = Random::new(!selection.seed, worker);
     each_image(selection, worker, |family, image| {
         let places = places(&mut random);
-        let Ok(result) = catch_unwind(AssertUnwindSafe(|| answer(image, places))) else {
+        let Ok(whole) = catch_unwind(AssertUnwindSafe(|| Whole::of(image))) else {
             survey.failed = Some(image.to_vec());
             return ControlFlow::Break(());
         };
-        let column = match &result {
+        survey.tally.deepen(whole.deepest);
+        let column = match &whole.answer(places) {
             Ok(Answer::Refused { number, .. }) => *number as usize,
             Ok(Answer::Accepted { findings, .. }) => {
                 let classes = findings.iter().step_by(6);

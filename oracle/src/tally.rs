@@ -6,17 +6,25 @@ use crate::generate::FAMILIES;
 
 /// Columns: accepted, refusals 1 to 12, and checks that would take too long.
 pub const TOO_LONG: usize = 13;
-const COLUMNS: usize = TOO_LONG + 1;
+pub const COLUMNS: usize = TOO_LONG + 1;
+
+/// Calls one in another from which on an image counts as deep.
+const DEEP: u64 = 1_000;
 
 #[derive(Debug, Clone)]
 pub struct Tally {
     rows: Vec<[u64; COLUMNS]>,
+    /// Images that go deep, and how deep the deepest goes.
+    deep: u64,
+    deepest: u64,
 }
 
 impl Default for Tally {
     fn default() -> Self {
         Self {
             rows: vec![[0; COLUMNS]; FAMILIES.len()],
+            deep: 0,
+            deepest: 0,
         }
     }
 }
@@ -26,10 +34,18 @@ impl Tally {
         self.rows[family][column] += 1;
     }
 
+    /// Counts how deep the calls for one image go.
+    pub fn deepen(&mut self, depth: u64) {
+        self.deep += u64::from(depth >= DEEP);
+        self.deepest = self.deepest.max(depth);
+    }
+
     pub fn add(&mut self, other: &Tally) {
         for (row, more) in self.rows.iter_mut().zip(&other.rows) {
             add_row(row, more);
         }
+        self.deep += other.deep;
+        self.deepest = self.deepest.max(other.deepest);
     }
 
     /// How often each number was answered, over all families.
@@ -74,6 +90,10 @@ impl fmt::Display for Tally {
                 writeln!(out)?;
             }
         }
-        Ok(())
+        let Self { deep, deepest, .. } = self;
+        writeln!(
+            out,
+            "calls one in another: {deepest} at most, {DEEP} or more on {deep} images"
+        )
     }
 }

@@ -1,61 +1,178 @@
-//! The comparer and the shrinker, with readers that are wrong on purpose.
+//! The comparer and the shrinker, with libraries that are wrong on purpose.
 
-use oracle::compare::{compare, exhaustive, smallest_difference, Selection};
-use oracle::reading::{by_importer, Reading};
+use oracle::compare::{compare, exhaustive, smallest_difference, Outcome, Selection};
+use oracle::generate::{family_named, Families};
+use oracle::library::{Call, Library, Verdict, REFERENCE};
 
 const SELECTION: Selection = Selection {
     count: 20_000,
     seed: 3,
-    family: None,
+    families: Families::All,
 };
 
-/// Takes an array's size for 32 bits wide.
-fn wrong_on_wide_sizes(image: &[u8], reading: &mut Reading) {
-    by_importer(image, reading);
-    let wide = image
-        .windows(6)
-        .any(|run| run.iter().all(|&byte| byte >= 0x80));
-    if reading.number == 0 && wide {
-        reading.starts.fill(0);
-        (reading.number, reading.value) = (4, 0);
-    }
+/// The reference without findings, which take longer.
+const SIZES: Library = Library {
+    check: None,
+    ..REFERENCE
+};
+
+fn run_family(name: &str, library: Library) -> Outcome {
+    let family = family_named(name).expect("a family");
+    let selection = Selection {
+        count: 1_000,
+        seed: 5,
+        families: Families::One(family),
+    };
+    compare(selection, library)
 }
 
-/// Leaves the last start alone.
-fn wrong_on_last_start(image: &[u8], reading: &mut Reading) {
-    let kept = reading.starts[511];
-    by_importer(image, reading);
-    reading.starts[511] = kept;
+fn refused(number: u64) -> Verdict {
+    Verdict { number, value: 0 }
 }
 
 #[test]
-fn importer_equals_itself() {
-    let outcome = compare(SELECTION, by_importer);
+fn reference_equals_itself() {
+    let selection = Selection {
+        count: 4_000,
+        ..SELECTION
+    };
+    let outcome = compare(selection, REFERENCE);
     assert_eq!(outcome.difference, None);
-    assert_eq!(outcome.tally.images(), SELECTION.count);
+    assert_eq!(outcome.tally.images(), selection.count);
+    // Refusal 1 takes long images, which are rare.
+    for number in (0..=12).filter(|&number| number != 1) {
+        assert!(outcome.calls[number] > 0, "no call answers {number}");
+    }
 }
 
 #[test]
 fn difference_is_found_and_shrunk() {
-    let outcome = compare(SELECTION, wrong_on_wide_sizes);
+    // Takes an array's size for 32 bits wide.
+    let library = Library {
+        sizes: |image, sizes| {
+            let verdict = (REFERENCE.sizes)(image, sizes);
+            let wide = |run: &[u8]| run.iter().all(|&byte| byte >= 0x80);
+            if verdict.number == 0 && image.windows(6).any(wide) {
+                sizes.fill(0);
+                return refused(4);
+            }
+            verdict
+        },
+        ..SIZES
+    };
+    let outcome = compare(SELECTION, library);
     let difference = outcome.difference.expect("a difference");
     assert!(difference.image.len() <= 24, "{:02x?}", difference.image);
-    assert_eq!(difference.importer.number, 0);
-    assert_eq!(difference.ours.number, 4);
-    let again = smallest_difference(&difference.image, wrong_on_wide_sizes);
+    assert!(matches!(difference.call, Call::Sizes { .. }));
+    assert_eq!(difference.expected.verdict.number, 0);
+    assert_eq!(difference.ours.verdict.number, 4);
+    let again = smallest_difference(&difference.image, library);
     assert_eq!(again, Some(difference));
 }
 
 #[test]
-fn untouched_place_is_seen() {
-    let outcome = compare(SELECTION, wrong_on_last_start);
-    let difference = outcome.difference.expect("a difference");
-    assert!(difference.image.is_empty());
+fn untouched_start_is_seen() {
+    let library = Library {
+        read: |image, starts| {
+            let kept = starts.last().copied();
+            let verdict = (REFERENCE.read)(image, starts);
+            if let (Some(last), Some(kept)) = (starts.last_mut(), kept) {
+                *last = kept;
+            }
+            verdict
+        },
+        ..SIZES
+    };
+    let difference = compare(SELECTION, library).difference;
+    assert!(difference.expect("a difference").image.is_empty());
+}
+
+#[test]
+fn untouched_size_is_seen_even_on_refusal() {
+    let library = Library {
+        sizes: |image, sizes| {
+            let kept = sizes.to_vec();
+            let verdict = (REFERENCE.sizes)(image, sizes);
+            if verdict.number == 10 {
+                sizes.copy_from_slice(&kept);
+            }
+            verdict
+        },
+        ..SIZES
+    };
+    let difference = run_family("valid", library).difference;
+    let difference = difference.expect("a difference");
+    assert_eq!(difference.expected.verdict, refused(10));
+    // One slot, one place less than it takes.
+    assert_eq!(difference.call, Call::Sizes { sizes: 2 });
+}
+
+#[test]
+fn write_past_the_table_is_seen() {
+    let library = Library {
+        sizes: |image, sizes| {
+            let verdict = (REFERENCE.sizes)(image, sizes);
+            // SAFETY: the comparer keeps places past each table.
+            unsafe { sizes.as_mut_ptr().add(sizes.len()).write(0) };
+            verdict
+        },
+        ..SIZES
+    };
+    let difference = run_family("valid", library).difference;
+    assert!(difference.expect("a difference").ours.beyond);
+}
+
+/// Each wrong library differs on the family that is there for it.
+#[test]
+fn families_show_wrong_sizes() {
+    let no_limit: Library = Library {
+        sizes: |image, sizes| {
+            let verdict = (REFERENCE.sizes)(image, sizes);
+            match verdict.number {
+                11 => refused(0),
+                _ => verdict,
+            }
+        },
+        ..SIZES
+    };
+    for family in ["limits", "edges", "turns"] {
+        assert!(
+            run_family(family, no_limit).difference.is_some(),
+            "{family}"
+        );
+    }
+    let long_stack_only: Library = Library {
+        sizes: |image, sizes| match image.len() > 20_000 {
+            true => refused(1),
+            false => (REFERENCE.sizes)(image, sizes),
+        },
+        ..SIZES
+    };
+    assert!(run_family("deep", long_stack_only).difference.is_some());
+}
+
+#[test]
+fn wrong_finding_is_seen() {
+    let library = Library {
+        check: Some(|image, sizes, findings| {
+            let check = REFERENCE.check.expect("the reference has all");
+            let verdict = check(image, sizes, findings);
+            if verdict.number == 0 && findings.first() == Some(&4) {
+                findings[4] += 1;
+            }
+            verdict
+        }),
+        ..REFERENCE
+    };
+    let difference = run_family("traits", library).difference;
+    let difference = difference.expect("a difference");
+    assert!(matches!(difference.call, Call::Check { .. }));
+    assert_eq!(difference.expected.verdict.number, 0);
 }
 
 #[test]
 fn all_images_of_two_bytes() {
-    let outcome = exhaustive(2, by_importer);
+    let outcome = exhaustive(2, SIZES);
     assert_eq!(outcome.difference, None);
     assert_eq!(outcome.tally.images(), 1 + 256 + 65_536);
 }

@@ -2,7 +2,7 @@
 //! sizes worked out here equal the upstream ones on all of them.
 
 use oracle::compare::Selection;
-use oracle::generate::{batch, FAMILIES};
+use oracle::generate::{batch, Families, FAMILIES};
 use oracle::survey::survey;
 use oracle::tally::TOO_LONG;
 
@@ -11,7 +11,7 @@ fn every_answer_is_met() {
     let selection = Selection {
         count: 60_000,
         seed: 11,
-        family: None,
+        families: Families::All,
     };
     let survey = survey(selection);
     assert_eq!(survey.failed, None);
@@ -29,7 +29,7 @@ fn every_answer_is_met() {
 fn every_family_gives_images() {
     for (index, family) in FAMILIES.iter().enumerate() {
         let mut images = 0;
-        batch(5, 0, Some(index), |_, _| images += 1);
+        batch(5, 0, Families::One(index), |_, _| images += 1);
         assert!(images > 0, "{}", family.name);
     }
 }
@@ -38,7 +38,9 @@ fn every_family_gives_images() {
 fn a_batch_is_told_by_seed_and_number() {
     let images = |number| {
         let mut images = Vec::new();
-        batch(9, number, None, |_, image| images.push(image.to_vec()));
+        batch(9, number, Families::All, |_, image| {
+            images.push(image.to_vec())
+        });
         images
     };
     for number in 0..50 {

@@ -3,7 +3,7 @@
 use oracle::answer::{answer, lines, PROGRAM_PLACES};
 use oracle::example::bond_report;
 use oracle::export::{export, Unfit};
-use oracle::generate::batch;
+use oracle::generate::{batch, Families};
 use oracle::import::import;
 use oracle::ir::{CompiledSchema, ResolvedType, TypeDef, WireSize};
 use oracle::typeck::check;
@@ -48,7 +48,7 @@ fn accepted_images_come_back() {
 
 fn images_come_back() {
     for number in 0..4_000 {
-        batch(21, number, None, |_, image| {
+        batch(21, number, Families::All, |_, image| {
             if let Ok(imported) = import(image) {
                 let once = export(&imported.schema).expect("what was read fits");
                 let again = import(&once).expect("accepted again");

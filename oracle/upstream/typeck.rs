@@ -22,6 +22,16 @@ pub fn check(compiled: &mut CompiledSchema) -> Vec<Diagnostic> {
     // Check recursive types.
     check_recursion(compiled, &mut diags);
 
+    compute_wire_sizes(compiled);
+
+    // Check trait conformance and portable function-body semantics.
+    check_impl_conformance(compiled, &mut diags);
+
+    diags
+}
+
+/// Both passes that fill in wire_bits, wire_bytes and wire_size.
+pub fn compute_wire_sizes(compiled: &mut CompiledSchema) {
     let decl_ids: Vec<TypeId> = compiled.declarations.clone();
 
     // Pass 1: compute wire_bits for enums and wire_bytes for flags.
@@ -67,11 +77,6 @@ pub fn check(compiled: &mut CompiledSchema) -> Vec<Diagnostic> {
             }
         }
     }
-
-    // Check trait conformance and portable function-body semantics.
-    check_impl_conformance(compiled, &mut diags);
-
-    diags
 }
 
 // ---------------------------------------------------------------------------

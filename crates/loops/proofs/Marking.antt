@@ -7,16 +7,15 @@ use native.Mathlib.Omega.{arith}
 use borrow.Author.Tests.{ne-eqb}
 use lib.Dec.{eqb}
 use lib.ListN.{length, getD, List·getD-eq-default}
-use Rattle.number.specs.Grammar.{Outcome, done, refused, below, read}
+use Rattle.number.specs.Grammar.{Outcome, done, below, read}
 use Rattle.number.specs.Answers.{next}
 use Rattle.tree.specs.Tree.{Tree, Leaf, Wrap, Pair, leaf, wrap, fixedArray, pair, generic, primitive, subByte, semantic, named, bitsInline, qualified, optional, array, setOf, vec2, vec3, vec4, quat, mat3, mat4, mapOf, resultOf, leafKind, leafNumber, wrapKind, pairKind}
-use Rattle.tree.specs.TreeAt.{kindsOf, treeAt, headAt, shape}
+use Rattle.tree.specs.TreeAt.{treeAt, headAt, shape}
 use Rattle.tree.specs.declared.Sort.{Sort}
 use Rattle.tree.specs.declared.Sort.the-variants.{Resolved, Expression}
 use Rattle.tree.specs.declared.Head.{Head}
 use Rattle.tree.proofs.Ranges.{each}
-use Rattle.tree.proofs.Levels.{deep-at, deep-refused}
-use Rattle.tree.proofs.Shapes.{tree-deep, parts}
+use Rattle.tree.proofs.Shapes.{no-tree, parts}
 use Rattle.graph.specs.Ways.{has}
 use Rattle.graph.specs.Table.{grid, Marked}
 use Rattle.graph.proofs.Rows.{grown-none, grown-as}
@@ -129,19 +128,6 @@ module _ (finds : List ℕ) where
 -- where a reading ended
 pub ends : {A : Type 0} {o : Outcome A} {a : A} {n r : ℕ} → r ≡ placeOf (next o) → o ≡ done a n → r ≡ n
 ends e f = e ∙ ap (λ o. placeOf (next o)) f
-
--- no tree has no levels
-no-tree : (sort : Sort) (names : ℕ) (s : List ℕ) (at levels : ℕ) → levels ≡ 0 → (t : Tree) (end : ℕ)
-    → read (treeAt sort names levels) s at ≡ done t end → ⊥
-no-tree sort names s at levels z t end e = go (below (kindsOf sort) s at) refl
-  where
-    go : (o : Outcome ℕ) → below (kindsOf sort) s at ≡ o → ⊥
-    go (done k p) f =
-        let d = deep-at s at (kindsOf sort) Tree k p f ∙ sym (tree-deep sort names s at levels z) ∙ ap next e in
-        let y : _≡_ {A = ℕ} 0 1 = cc in omega arith
-    go (refused r p) f =
-        let d = deep-refused s at (kindsOf sort) Tree r p f ∙ sym (tree-deep sort names s at levels z) ∙ ap next e in
-        let y : _≡_ {A = ℕ} 0 1 = cc in omega arith
 
 module _ (sort : Sort) (names : ℕ) (finds : List ℕ) (row : ℕ) (s : List ℕ) (at levels : ℕ) (m : List ℕ) where
   abbrev Walked : (before after : List ℕ) → (levels at next : ℕ) → Type 0

@@ -1,14 +1,14 @@
 -- `below` by what the number's reading gave, and what is known of a number below a limit.
 -- Assumes nothing.
-use Prim.Native.Nat.{ℕ, _≤_, _<_}
-use mathlib.Core.Path.{_≡_, refl}
+use Prim.Native.Nat.{ℕ, _+_, _≤_, _<_}
+use mathlib.Core.Path.{_≡_, refl, sym, ap, _∙_}
 use mathlib.Core.List.{List}
 use mathlib.Core.Bool.{Bool, true, false, cond}
 use native.Mathlib.Omega.{arith}
-use lib.ListN.{length}
+use lib.ListN.{length, getD}
 use lib.Dec.{ltb}
-use borrow.Author.Tests.{lt-ltb, le-ltb, ltb-true}
-use Rattle.number.specs.Number.{numberAt}
+use borrow.Author.Tests.{lt-ltb, le-ltb, le-leb, ltb-true}
+use Rattle.number.specs.Number.{numberAt, groupsAt}
 use Rattle.number.specs.Grammar.{done, refused, below, ranged}
 use Rattle.number.specs.declared.Number.{Number}
 use Rattle.number.proofs.Laws.{bounds}
@@ -26,8 +26,20 @@ module _ (s : List ℕ) (at limit : ℕ) where
   unfolding below ranged
   no-number r e = simp e
 
+  -- a number of one byte
+  one-byte : at < length s → getD s at 0 < 128 → numberAt s at ≡ Number.Value (getD s at 0) (at + 1)
+  unfolding numberAt groupsAt
+  one-byte h b = simp (lt-ltb _ _ h, le-leb 0 (getD s at 0) (omega arith), lt-ltb _ _ b)
+
+  pub byte-in-range : (v : ℕ) → v ≡ getD s at 0 → at < length s → v < 128 → v < limit → below limit s at ≡ done v (at + 1)
+  byte-in-range v e h b l = in-range v (at + 1) (one-byte h (omega arith) ∙ ap (λ (w : ℕ). Number.Value w (at + 1)) (sym e)) l
+
+  pub byte-out-of-range : (v : ℕ) → v ≡ getD s at 0 → at < length s → v < 128 → limit ≤ v → below limit s at ≡ refused 4 at
+  byte-out-of-range v e h b l = out-of-range v (at + 1) (one-byte h (omega arith) ∙ ap (λ (w : ℕ). Number.Value w (at + 1)) (sym e)) l
+
   -- a number below a limit: its value, where its bytes end
   pub record Below (v n : ℕ) : Type 0 where
+    pub value : numberAt s at ≡ Number.Value v n
     pub under : v < limit
     pub after : at < n
     pub within : n ≤ length s
@@ -42,7 +54,7 @@ module _ (s : List ℕ) (at limit : ℕ) where
           let x : v ≡ w = cc in
           let y : n ≡ m = cc in
           let l = ltb-true w limit t in
-          record { under = omega arith; after = omega (arith, i .after); within = omega (arith, i .within) }
+          record { value = cc; under = omega arith; after = omega (arith, i .after); within = omega (arith, i .within) }
       inner false w m t q f = let z : _≡_ {A = ℕ} 0 1 = cc in absurd (omega arith)
 
       go : (x : Number) → numberAt s at ≡ x → ranged at limit x ≡ done v n → Below v n

@@ -65,8 +65,8 @@ pub enum Next {
     Refused(u8, usize),
 }
 
-// A number below a limit.
-pub fn read_below(image: &[u8], at: usize, limit: u64) -> Ranged
+// A number below a limit, of any length.
+fn read_long(image: &[u8], at: usize, limit: u64) -> Ranged
     ensures { λ r. ⌜ outcome r ≡ below limit (now (image .entry)) at ⌝ }
 {
     match read_number(image, at) {
@@ -79,6 +79,22 @@ pub fn read_below(image: &[u8], at: usize, limit: u64) -> Ranged
         }
         Number::Refused(r) => Ranged::Refused(r, at),
     }
+}
+
+// A number below a limit. Nearly all have one byte.
+pub fn read_below(image: &[u8], at: usize, limit: u64) -> Ranged
+    ensures { λ r. ⌜ outcome r ≡ below limit (now (image .entry)) at ⌝ }
+{
+    if at < image.len() {
+        let b = wide(image[at]);
+        if b < 128 {
+            if b < limit {
+                return Ranged::Value(b, at + 1);
+            }
+            return Ranged::Refused(4, at);
+        }
+    }
+    read_long(image, at, limit)
 }
 
 // Any number.

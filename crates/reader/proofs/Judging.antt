@@ -1,5 +1,5 @@
 -- From the parts of an image to the answer, and to what is promised of it. Assumes nothing.
-use Prim.Native.Nat.{ℕ, suc, _+_, _≤_, _<_, _^_}
+use Prim.Native.Nat.{ℕ, zero, suc, _+_, _≤_, _<_, _^_}
 use mathlib.Core.Path.{_≡_, refl, sym, ap, ap₂, subst, fun-ext, _∙_}
 use mathlib.Core.List.{List}
 use mathlib.Core.Bool.{false}
@@ -8,19 +8,20 @@ use native.Mathlib.Omega.{arith}
 use native.Mathlib.Decide.{decLt}
 use lib.ListN.{length, getD, drop, replicate, length-map, List·getD-eq-default, List·getD-append}
 use lib.Seq.{sets, sets-eq, length-sets}
-use Rattle.number.specs.Grammar.{slot, number, many, Outcome, done, refused, read}
-use Rattle.number.proofs.Reading.{many-length}
+use Rattle.number.specs.Grammar.{slot, count, give, _>>=_, number, here, many, Outcome, done, refused, read}
+use Rattle.number.proofs.Reading.{read-bind, read-number, read-done, then-on, given, front, many-length}
+use Rattle.number.proofs.InRange.{below-is}
 use Rattle.tree.specs.declared.Sort.{Sort}
 use Rattle.tree.specs.declared.Sort.the-variants.{Resolved, Expression}
 use Rattle.slot.specs.Slot.{Slot, empty, slotAt}
 use Rattle.graph.specs.declared.Lowest.{Lowest}
 use Rattle.graph.specs.Loops.{lowest-none}
 use Rattle.image.specs.Schema.{Schema, slotOf}
-use Rattle.image.specs.Image.{Image, imageOf, schemaIn, frameIn, framed, startsOf, placedAt}
+use Rattle.image.specs.Image.{Image, imageOf, schemaIn, frameIn, framed, startsOf, contentsOf, Placed, placedAt, Declared, declaredAt}
 use Rattle.image.specs.declared.Frame.{Frame}
 use Rattle.image.specs.declared.Framed.{Framed}
 use Rattle.image.proofs.Framing.{Accepted, accepted, FrontParts, front-parts, declared-parts}
-use Rattle.image.proofs.Tables.{entry}
+use Rattle.image.proofs.Tables.{placed-is, entry}
 use Rattle.loops.specs.Leads.{loopOf, slotsOf, Located}
 use Rattle.loops.specs.Refusals.{OnLoop, slots-past, not-looped}
 use Rattle.reader.specs.Reading.{isEmpty, lost, lostName, orRefuse, judged, answered, readingOf, schemaOr, schemaOf, startsOr, startsTable}
@@ -70,6 +71,28 @@ module _ (S : Schema) (f : Frame) where
       go Lowest.Nowhere p (Lowest.At i) q d r h = let z : _≡_ {A = ℕ} 0 1 = cc in absurd (omega arith)
       go Lowest.Nowhere p Lowest.Nowhere q (Lowest.At i) r h = let z : _≡_ {A = ℕ} 0 1 = cc in absurd (omega arith)
       go Lowest.Nowhere p Lowest.Nowhere q Lowest.Nowhere r h = record { names = p; newtypes = q; aliases = r; frame = cc }
+
+-- the slots of a run, without where they start
+slots-run : (names : ℕ) (s : List ℕ) (left at : ℕ) (xs : List Placed) (end : ℕ) → read (many left (placedAt names)) s at ≡ done xs end
+    → read (many left (slotAt names)) s at ≡ done (contentsOf xs) end
+unfolding many read
+slots-run names s zero at xs end e = let g = given e in ap₂ (λ (l : List Placed) (n : ℕ). done (contentsOf l) n) (g .0) (g .1)
+slots-run names s (suc left) at xs end e =
+    let f = front (placedAt names) s left at xs end e in
+    read-bind (slotAt names) _ s at
+    ∙ then-on _ _ (placed-is names s at (f .first) (f .middle) (f .here) .holds)
+    ∙ read-bind (many left (slotAt names)) _ s (f .middle)
+    ∙ then-on _ _ (slots-run names s left (f .middle) (f .others) end (f .rest))
+    ∙ ap (λ (l : List Placed). done (contentsOf l) end) (sym (f .whole))
+
+few-declarations : (s : List ℕ) (at : ℕ) (d : Declared) (n : ℕ) → read declaredAt s at ≡ done d n → d .declarations ≤ 1024
+unfolding declaredAt read _>>=_
+few-declarations s at d n e =
+    let a = read-done (number count 1025) (λ m. _>>=_ here (λ q. _>>=_ (many m (number slot (2 ^ 32))) (λ ds. give (record { declarations = m; declaredPlace = q; declared = ds })))) s at d n e in
+    let u = below-is s at 1025 (a .first) (a .middle) (sym (read-number count 1025 s at) ∙ a .here) .under in
+    let b = read-done (many (a .first) (number slot (2 ^ 32))) (λ ds. give (record { declarations = a .first; declaredPlace = a .middle; declared = ds })) s (a .middle) d n (a .rest) in
+    let k = ap (λ (x : Declared). x .declarations) (given (b .rest) .0) in
+    omega arith
 
 -- an image that was seen
 module _ (s starts : List ℕ) (f : Frame) (v : Seen s starts f) where
@@ -177,12 +200,15 @@ module _ (s starts : List ℕ) (f : Frame) (v : Seen s starts f) where
       subst (λ (h : Frame). Promise s starts h) (c .frame)
       record {
         small = parts .few;
+        fewNames = few-names;
         findsEnd = fronts .findsEnd;
         finds = finds-read;
         count = count-is;
         few = located .few;
         room = located .room;
         slots = slots-read;
+        run = (parts .slotsPlace, parts .declarationsPlace, slots-follow);
+        fewDeclared = omega (arith, declarations-are, few-declarations s (parts .declarationsPlace) (v .image .declared) (v .end) (parts .declaredRead));
         declaredEnd = v .end;
         declared = declared-is;
         found = all-found (c .names);
@@ -190,6 +216,15 @@ module _ (s starts : List ℕ) (f : Frame) (v : Seen s starts f) where
         aliases = no-loop Expression (c .aliases);
       }
     where
+      declarations-are : f .declarations ≡ v .image .declared .declarations
+      declarations-are = ap (λ (h : Frame). h .declarations) (v .frame)
+
+      slots-follow : read (many (f .slots) (slotAt (f .names))) s (parts .slotsPlace) ≡ done (schemaOf s .slots) (parts .declarationsPlace)
+      slots-follow =
+          ap₂ (λ (k n : ℕ). read (many k (slotAt n)) s (parts .slotsPlace)) slots-are names-are
+          ∙ slots-run (v .image .front .names) s (v .image .front .slotCount) (parts .slotsPlace) (v .image .slots) (parts .declarationsPlace) (parts .slotsRead)
+          ∙ ap (λ (S : Schema). done (S .slots) (parts .declarationsPlace)) (sym schema-is)
+
       declared-is : read (many (f .declarations) (number slot (2 ^ 32))) s (f .declared) ≡ done (schemaOf s .declared) (v .end)
       declared-is =
           ap (λ (h : Frame). read (many (h .declarations) (number slot (2 ^ 32))) s (h .declared)) (v .frame)

@@ -28,12 +28,16 @@ pub record Seen (s starts : List ℕ) (f : Frame) : Type 0 where
 -- types, no aliases by generics; every name that finds a slot finds one that is there
 pub record Promise (s starts : List ℕ) (f : Frame) : Type 0 where
   pub small : length s ≤ 65536
+  pub fewNames : f .names ≤ 4096
   pub findsEnd : ℕ
   pub finds : read (many (f .names) (number slot 513)) s (f .finds) ≡ done (schemaOf s .finds) findsEnd
   pub count : f .slots ≡ length (schemaOf s .slots)
   pub few : f .slots ≤ 512
   pub room : f .slots ≤ length starts
   pub slots : (i : ℕ) → i < f .slots → (end : ℕ) × (read (slotAt (f .names)) s (getD starts i 0) ≡ done (slotOf (schemaOf s) i) end)
+  -- the slots follow one another
+  pub run : (at : ℕ) × (end : ℕ) × (read (many (f .slots) (slotAt (f .names))) s at ≡ done (schemaOf s .slots) end)
+  pub fewDeclared : f .declarations ≤ 1024
   pub declaredEnd : ℕ
   pub declared : read (many (f .declarations) (number slot (2 ^ 32))) s (f .declared) ≡ done (schemaOf s .declared) declaredEnd
   pub found : (n i : ℕ) → getD (schemaOf s .finds) n 0 ≡ suc i → isEmpty (slotOf (schemaOf s) i) ≡ false

@@ -2,27 +2,17 @@
 use Prim.Native.Nat.{ℕ, suc, _-_, _≤_, _<_}
 use mathlib.Core.Path.{_≡_, refl, sym, ap, ap₂, _∙_}
 use mathlib.Core.List.{List, [], _∷_}
-use mathlib.Core.Bool.{Bool, true, false, cond}
 use native.Mathlib.Omega.{arith}
-use lib.Dec.{ltb}
 use Rattle.number.specs.Number.{numberAt}
-use Rattle.number.specs.Grammar.{Role, Grammar, _>>=_, number, many, done, refused, below, ranged, read}
+use Rattle.number.specs.Grammar.{Role, Grammar, _>>=_, number, many, done, below, read}
 use Rattle.number.specs.declared.Number.{Number}
+use Rattle.number.proofs.InRange.{below-is}
 use Rattle.number.proofs.Reading.{read-done, read-number, given, front}
 use Rattle.rows.specs.Rows.{Takes}
 
 -- a number below a limit, without the limit
 in-limit : (s : List ℕ) (at limit v n : ℕ) → below limit s at ≡ done v n → numberAt s at ≡ Number.Value v n
-unfolding below ranged
-in-limit s at limit v n e = go (numberAt s at) e
-  where
-    inner : (b : Bool) (w m : ℕ) → cond b (done w m) (refused 4 at) ≡ done v n → Number.Value w m ≡ Number.Value v n
-    inner true w m f = cc
-    inner false w m f = let z : _≡_ {A = ℕ} 0 1 = cc in absurd (omega arith)
-
-    go : (x : Number) → ranged at limit x ≡ done v n → x ≡ Number.Value v n
-    go (Number.Value w m) f = inner (ltb w limit) w m f
-    go (Number.Refused r) f = let z : _≡_ {A = ℕ} 0 1 = cc in absurd (omega arith)
+in-limit s at limit v n e = below-is s at limit v n e .value
 
 module _ (s : List ℕ) (at : ℕ) where
   pub taken : (v n : ℕ) → numberAt s at ≡ Number.Value v n → Takes s at v n

@@ -1,9 +1,9 @@
--- The starred lines of the bench sheet that concern widths and sizes, the image shown, and cases at the edge.
+-- The image shown on the bench sheet, and cases at the edge; its starred lines stand where findings are known too.
 use mathlib.Core.Path.{_≡_, refl}
 use Prim.Native.Nat.{ℕ, zero, suc, _-_, _^_}
 use mathlib.Core.List.{List, [], _∷_, _++_, map}
 use mathlib.Core.Option.{none}
-use Rattle.tree.specs.Tree.{Tree, Leaf, leaf, wrap, fixedArray, pair, generic, primitive, subByte, semantic, named, bitsInline, qualified, optional, array, vec3, resultOf}
+use Rattle.tree.specs.Tree.{Tree, Leaf, leaf, wrap, fixedArray, pair, generic, primitive, subByte, semantic, named, bitsInline, qualified, optional, array}
 use Rattle.tree.specs.Encoding.{Encoding, default, varint, zigZag, delta}
 use Rattle.slot.specs.Field.{Field, Stored}
 use Rattle.slot.specs.Slot.{Slot, message, enum, flags, union, newtype}
@@ -26,63 +26,63 @@ answerOf S (refused i) = refusal i
 -- ## Schemas written short
 
 -- slots that are all declared, in order
-abbrev inOrder : ℕ → List Slot → List ℕ
+abbrev pub inOrder : ℕ → List Slot → List ℕ
 inOrder i [] = []
 inOrder i (x ∷ xs) = i ∷ inOrder (suc i) xs
 
-abbrev all : List Slot → Schema
+abbrev pub all : List Slot → Schema
 all slots = record { finds = []; slots = slots; declared = inOrder 0 slots }
 
-abbrev declaring : List ℕ → List Slot → Schema
+abbrev pub declaring : List ℕ → List Slot → Schema
 declaring ds slots = record { finds = []; slots = slots; declared = ds }
 
-abbrev a-field : Encoding → Tree → Field
+abbrev pub a-field : Encoding → Tree → Field
 a-field e t = record { fieldName = 0; encoding = e; type = t }
 
-abbrev each : List Tree → List Field
+abbrev pub each : List Tree → List Field
 each [] = []
 each (t ∷ ts) = a-field default t ∷ each ts
 
-abbrev a-message : Stored → List Field → Slot
+abbrev pub a-message : Stored → List Field → Slot
 a-message stored fs = message (record { span = record { offset = 0; length = 0 }; stored = stored; fields = fs })
 
-abbrev of : List Tree → Slot
+abbrev pub of : List Tree → Slot
 of ts = a-message Stored.none (each ts)
 
-abbrev encoded : Encoding → Tree → Slot
+abbrev pub encoded : Encoding → Tree → Slot
 encoded e t = a-message Stored.none (a-field e t ∷ [])
 
-abbrev a-union : List (List Field) → Slot
+abbrev pub a-union : List (List Field) → Slot
 a-union vs = union (record { stored = Stored.none; variants = vs })
 
-abbrev a-newtype : Tree → Slot
+abbrev pub a-newtype : Tree → Slot
 a-newtype t = newtype (record { inner = t; terminal = t })
 
-abbrev an-enum : (nonExhaustive : ℕ) → List ℕ → Slot
+abbrev pub an-enum : (nonExhaustive : ℕ) → List ℕ → Slot
 an-enum x os = enum (record { backing = 0; nonExhaustive = x; storedBits = 0; ordinals = record { live = os } })
 
-abbrev stored-enum : (bits : ℕ) → List ℕ → Slot
+abbrev pub stored-enum : (bits : ℕ) → List ℕ → Slot
 stored-enum b os = enum (record { backing = 0; nonExhaustive = 0; storedBits = b; ordinals = record { live = os } })
 
-abbrev some-flags : List ℕ → Slot
+abbrev pub some-flags : List ℕ → Slot
 some-flags bs = flags (record { storedBytes = 0; bits = record { live = bs } })
 
-abbrev bool : Tree
+abbrev pub bool : Tree
 bool = leaf (primitive 0)
 
-abbrev u8 : Tree
+abbrev pub u8 : Tree
 u8 = leaf (primitive 1)
 
-abbrev u16 : Tree
+abbrev pub u16 : Tree
 u16 = leaf (primitive 2)
 
-abbrev u32 : Tree
+abbrev pub u32 : Tree
 u32 = leaf (primitive 3)
 
-abbrev string : Tree
+abbrev pub string : Tree
 string = leaf (semantic 0)
 
-abbrev slot : ℕ → Tree
+abbrev pub slot : ℕ → Tree
 slot i = leaf (named i)
 
 -- ## Lines
@@ -104,25 +104,7 @@ said ls = map (λ l. l .gives) ls
 abbrev pub answered : List Line → List Answer
 answered ls = map (λ l. answerOf (l .of) (checkSizes (l .of))) ls
 
--- the starred lines of the bench sheet, in its order
-abbrev pub starred : List Line
-starred =
-    shows (all (an-enum 1 (255 ∷ []) ∷ an-enum 1 (256 ∷ []) ∷ [])) (row 4 8 0 ++ row 4 9 0)
-    ∷ shows (all (an-enum 0 [] ∷ [])) (row 4 1 0)
-    ∷ shows (all (some-flags (7 ∷ []) ∷ some-flags (8 ∷ []) ∷ [])) (row 5 1 0 ++ row 5 2 0)
-    ∷ shows (all (some-flags (31 ∷ []) ∷ some-flags (32 ∷ []) ∷ [])) (row 5 4 0 ++ row 5 8 0)
-    ∷ shows (all (of (wrap optional u32 ∷ []) ∷ [])) (row 2 1 33)
-    ∷ shows (all (of (pair resultOf u8 u32 ∷ []) ∷ [])) (row 2 9 33)
-    ∷ shows (all (of (fixedArray (wrap optional bool) 3 ∷ []) ∷ of (wrap vec3 (wrap optional bool) ∷ []) ∷ []))
-    (row 3 3 0 ++ row 2 3 6)
-    ∷ shows (all (a-union (each (u8 ∷ []) ∷ each (u32 ∷ []) ∷ []) ∷ [])) (row 2 16 40)
-    ∷ []
-
-pub starred-hold : answered starred ≡ said starred
-unfolding checkSizes turns turn onward ownSize bodySize storing store brought nameSize nameWithin nameRule contentSize contentOf contentIn slotOf typeSize leafSize wrapSize then limited primitiveBits semanticBits varintEnd zigZagEnd encodedSize fieldSize addFields addVariants unionSize tableOf rowsFrom slotRow enumBitsAt flagsBytesAt enumBits flagsBytes ordinalBits bitLength digits highest bytesTo has
-starred-hold = refl
-
--- ## Other lines
+-- ## Lines of sizes
 
 -- A { B }, B { u8 }, where B brings Fixed 3
 abbrev wrong : List ℕ → Schema

@@ -228,7 +228,7 @@ fn skip_trait_span(image: &[u8], cursor: Next) -> Next
     }
 }
 
-fn read_types(image: &[u8], at: usize, count: u64, names: u64) -> Next
+pub fn read_types(image: &[u8], at: usize, count: u64, names: u64) -> Next
     ensures { λ r. ⌜ r ≡ next (read (many count (typeAt names)) (now (image .entry)) at) ⌝ }
 {
     let mut left = count;

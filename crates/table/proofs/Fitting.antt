@@ -48,13 +48,13 @@ all-written table before now i w h =
     ext-getD 0 now (fitted (length before) table) (w .long ∙ sym (fitted-length (length before) table))
     (λ k l. w .same k (omega arith) ∙ sym (fitted-at (length before) table k (omega (arith, w .long))))
 
-zeros-at : (n i : ℕ) → _≡_ {A = ℕ} (getD (replicate n 0) i 0) 0
+pub zeros-at : (n i : ℕ) → _≡_ {A = ℕ} (getD (replicate n 0) i 0) 0
 zeros-at zero i = refl
 zeros-at (suc n) zero = refl
 zeros-at (suc n) (suc i) = zeros-at n i
 
 -- a list written into zeros says at each place what the list says
-written-at : (n : ℕ) (t : List ℕ) → length t ≤ n → (i : ℕ) → getD (sets (replicate n 0) 0 t) i 0 ≡ getD t i 0
+pub written-at : (n : ℕ) (t : List ℕ) → length t ≤ n → (i : ℕ) → getD (sets (replicate n 0) 0 t) i 0 ≡ getD t i 0
 written-at n t h i =
     ap (λ (l : List ℕ). getD l i 0) (sets-eq t (replicate n 0) 0 (rw (length-replicate {A = ℕ} n 0) (omega arith)))
     ∙ by-cases (decLt i (length t))

@@ -14,7 +14,7 @@ use Rattle.tree.specs.TreeAt.{Node, none, one, two, sized, applied, kind
 use Rattle.tree.specs.declared.Sort.{Sort}
 use Rattle.tree.specs.declared.Head.{Head}
 use Rattle.tree.proofs.Ranges.{each}
-use Rattle.tree.proofs.Levels.{nested-deep, nested-on}
+use Rattle.tree.proofs.Levels.{deep-at, deep-refused, nested-deep, nested-on}
 
 -- a kind that holds one number
 pub shape-plain : (k flag : ℕ) (role : Role) (limit : ℕ) (f : ℕ → Leaf) (s : List ℕ) (at : ℕ)
@@ -150,3 +150,15 @@ module _ (sort : Sort) (names : ℕ) (s : List ℕ) (at levels : ℕ) where
   pub head-refused : (r p : ℕ) → below (kindsOf sort) s at ≡ refused r p → shape (read (headAt sort names) s at) ≡ Head.Refused r p
   unfolding headAt
   head-refused r p e = ap shape (number-refused kind (kindsOf sort) (bodyAt sort names) s at r p e)
+
+  -- no tree has no levels
+  pub no-tree : levels ≡ 0 → (t : Tree) (end : ℕ) → read (treeAt sort names levels) s at ≡ done t end → ⊥
+  no-tree z t end e = go (below (kindsOf sort) s at) refl
+    where
+      go : (o : Outcome ℕ) → below (kindsOf sort) s at ≡ o → ⊥
+      go (done k p) f =
+          let d = deep-at s at (kindsOf sort) Tree k p f ∙ sym (tree-deep z) ∙ ap next e in
+          let y : _≡_ {A = ℕ} 0 1 = cc in omega arith
+      go (refused r p) f =
+          let d = deep-refused s at (kindsOf sort) Tree r p f ∙ sym (tree-deep z) ∙ ap next e in
+          let y : _≡_ {A = ℕ} 0 1 = cc in omega arith

@@ -10,13 +10,14 @@ use Rattle.image.specs.Schema.{Schema}
 use Rattle.image.specs.declared.Frame.{Frame}
 use Rattle.reader.specs.Reading.{readingOf, schemaOf}
 use Rattle.reader.specs.declared.Reading.{Reading}
+use Rattle.reader.specs.Promise.{Promise}
 use Rattle.sizes.specs.Check.{Checked, checkSizes, tableOf}
 use Rattle.sizes.specs.Check as check
 use Rattle.sizes.specs.Demand.{Demand3}
 use Rattle.sizes.specs.Whole.{demand3}
 use Rattle.rows.proofs.Table.{table-length}
 use Rattle.table.specs.Fitted.{fitted}
-use Rattle.turns.specs.Sizing.{verdict, rowsIn, sizingIn, sizeRowsIn, sizingOf, sizesOf, Answered, SizesSaid, Through}
+use Rattle.turns.specs.Sizing.{verdict, rowsIn, sizingIn, sizeRowsIn, sizingOf, sizesOf, Answered, SizesSaid, RowsAsked, Through}
 use Rattle.turns.specs.declared.Sizing.{Sizing}
 use Rattle.turns.specs.declared.Passed.{Passed}
 use Rattle.table.proofs.Fitting.{fitted-written, fitted-front}
@@ -47,14 +48,14 @@ module _ (s before after : List ℕ) where
         }
 
     -- the table
-    pub all-passed : (rows : List ℕ) → length (schemaOf s .slots) ≤ 512 → Through (schemaOf s) (replicate 1536 0) rows Passed.All → after ≡ fitted (length before) rows
-        → SizesSaid s before after Sizing.Accepted
+    pub all-passed : (room : ℕ) (rows : List ℕ) → 3 * length (schemaOf s .slots) ≤ room → Through (schemaOf s) (replicate room 0) rows Passed.All
+        → after ≡ fitted (length before) rows → SizesSaid s before after Sizing.Accepted
     unfolding sizingIn sizeRowsIn
-    all-passed rows few t e =
+    all-passed room rows few t e =
         let st = t .0 in
         let n = table-length (schemaOf s) st in
         let w : after ≡ fitted (length before) (tableOf (schemaOf s) st) =
-        e ∙ ap (fitted (length before)) (t .2) ∙ fitted-written (length before) 1536 (tableOf (schemaOf s) st) (omega arith) in
+        e ∙ ap (fitted (length before)) (t .2) ∙ fitted-written (length before) room (tableOf (schemaOf s) st) (omega arith) in
         let r = fitted-front (length before) (tableOf (schemaOf s) st) (omega arith) in
         record {
           answer = λ f. simp (le-ltb _ _ h) (sym (ap verdict (t .1)));
@@ -86,9 +87,28 @@ module _ (s before after : List ℕ) where
 pub at-through : (S : Schema) (l rows : List ℕ) (x y : Passed) → Through S l rows x → x ≡ y → Through S l rows y
 at-through S l rows x y t e = subst (λ (p : Passed). Through S l rows p) e t
 
--- rows for 512 slots
-pub room-512 : (k : ℕ) → k ≤ 512 → 3 * k ≤ length (replicate {A = ℕ} 1536 0)
-room-512 k h = rw (length-replicate {A = ℕ} 1536 0) (omega arith)
+-- rows that were written stay as many
+pub rows-long : (rows before t : List ℕ) (k : ℕ) → rows ≡ sets before 0 t → k ≤ length before → k ≤ length rows
+rows-long rows before t k e h = omega (arith, ap length e ∙ length-sets before 0 t)
 
-pub rows-long : (rows t : List ℕ) (k : ℕ) → rows ≡ sets (replicate 1536 0) 0 t → k ≤ 512 → 3 * k ≤ length rows
-rows-long rows t k e h = omega (arith, ap length e ∙ length-sets (replicate 1536 0) 0 t ∙ length-replicate {A = ℕ} 1536 0)
+-- rows that are all zero are so many zeros
+pub zeros-asked : (s starts : List ℕ) (f : Frame) (n : ℕ) (sizes : List ℕ) → Promise s starts f → 3 * f .slots ≤ length sizes → 3 * f .slots ≤ n
+    → RowsAsked s starts f (replicate n 0) sizes
+zeros-asked s starts f n sizes p h k =
+    let e = length-replicate {A = ℕ} n 0 in
+    record { promise = p; places = h; room = omega arith; zero = ap (λ (m : ℕ). replicate m 0) (sym e) }
+
+-- zeros that were written into
+pub from-zeros : (before rows t : List ℕ) → rows ≡ sets before 0 t → before ≡ replicate (length before) 0 → rows ≡ sets (replicate (length before) 0) 0 t
+from-zeros before rows t e z = e ∙ ap (λ (l : List ℕ). sets l 0 t) z
+
+-- places and rows enough for the schema's slots
+pub few-rows : (s starts : List ℕ) (f : Frame) (rows sizes : List ℕ) → RowsAsked s starts f rows sizes
+    → (3 * length (schemaOf s .slots) ≤ length sizes) × (3 * length (schemaOf s .slots) ≤ length rows)
+    × (3 * length (schemaOf s .slots) ≤ length (replicate {A = ℕ} (length rows) 0))
+few-rows s starts f rows sizes a =
+    let c = a .promise .count in
+    let p = a .places in
+    let r = a .room in
+    let l = length-replicate {A = ℕ} (length rows) 0 in
+    (omega arith, omega arith, omega arith)

@@ -1,10 +1,16 @@
 -- The answers as numbers: a refusal's number and place, or 0 and how many slots an accepted image has.
 use Prim.Native.Nat.{ℕ}
+use mathlib.Core.Path.{_≡_}
 use mathlib.Core.List.{List}
+use lib.ListN.{length}
 use Rattle.table.specs.Fitted.{fitted}
-use Rattle.reader.specs.Reading.{startsTable}
+use Rattle.reader.specs.Reading.{startsTable, schemaOf}
 use Rattle.reader.specs.declared.Reading.{Reading}
 use Rattle.turns.specs.declared.Sizing.{Sizing}
+use Rattle.sizes.specs.Demand.{Demand3}
+use Rattle.typeck.specs.Check.{verdictOf, sizeTable, findingTable}
+use Rattle.typeck.specs.Check as check
+use Rattle.typeck.specs.declared.Verdict.{Verdict}
 
 abbrev pub numberOf : Reading → ℕ
 numberOf (Reading.Accepted f) = 0
@@ -26,3 +32,11 @@ sizingValue (Sizing.Refused r p) = p
 -- where the slots start, in a table of so many places
 abbrev pub startsIn : (places : ℕ) → List ℕ → List ℕ
 startsIn places s = fitted places (startsTable s)
+
+-- what the whole check says in two numbers, and of both tables; where the number is 0, demand 3 holds of the size table
+pub record Told (s sizes sizesAfter findings findingsAfter : List ℕ) (number value : ℕ) : Type 0 where
+  pub numberIs : number ≡ check.numberOf (verdictOf (length sizes) (length findings) s)
+  pub valueIs : value ≡ check.valueOf (verdictOf (length sizes) (length findings) s)
+  pub sizesAre : sizesAfter ≡ sizeTable (length sizes) (length findings) s
+  pub findingsAre : findingsAfter ≡ findingTable (length sizes) (length findings) s
+  pub demand : (n : ℕ) → verdictOf (length sizes) (length findings) s ≡ Verdict.Accepted n → Demand3 (schemaOf s) sizesAfter

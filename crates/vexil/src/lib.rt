@@ -1,6 +1,7 @@
 // What C and Rust programs link.
 use reader::Reading;
 use turns::Sizing;
+use typeck::Verdict;
 ghost use mathlib.Core.Path.{_≡_};
 ghost use lib.ListN.{length, getD};
 ghost use Rattle.reader.specs.Reading.{readingOf, schemaOf};
@@ -8,9 +9,11 @@ ghost use Rattle.table.specs.Fitted.{fitted};
 ghost use Rattle.sizes.specs.Demand.{Demand3};
 ghost use Rattle.turns.specs.Sizing.{sizingOf, sizesOf};
 ghost use Rattle.turns.specs.declared.Sizing.{Sizing};
-ghost use Rattle.vexil.specs.Answer.{numberOf, valueOf, sizingNumber, sizingValue, startsIn};
+ghost use Rattle.typeck.specs.declared.Verdict.{Verdict};
+ghost use Rattle.vexil.specs.Answer.{numberOf, valueOf, sizingNumber, sizingValue, startsIn, Told};
 
-// `number` is 0 for an accepted image, and `value` then counts its slots; else they are a refusal's number and place.
+// `number` is 0 for an accepted image, and `value` then counts its slots or its findings; else they are a refusal's number
+// and place.
 #[repr(C)]
 pub struct Answer {
     pub number: u64,
@@ -66,6 +69,23 @@ pub extern "C" fn vexil_sizes(image: &[u8], sizes: &mut [u64]) -> Answer
             value: 0,
         },
         Sizing::Refused(number, place) => Answer {
+            number: number as u64,
+            value: place,
+        },
+    }
+}
+
+// The whole check: three numbers a slot, six a finding.
+#[no_mangle]
+pub extern "C" fn vexil_check(image: &[u8], sizes: &mut [u64], findings: &mut [u32]) -> Answer
+    ensures { λ r. ⌜ Told (now (image .entry)) (now (sizes .entry)) (now (sizes .exit)) (now (findings .entry)) (now (findings .exit)) (r .number) (r .value) ⌝ }
+{
+    match typeck::check(image, sizes, findings) {
+        Verdict::Accepted(count) => Answer {
+            number: 0,
+            value: count,
+        },
+        Verdict::Refused(number, place) => Answer {
             number: number as u64,
             value: place,
         },

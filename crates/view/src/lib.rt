@@ -29,7 +29,7 @@ pub fn slot_part(image: &[u8], starts: &[usize], k: usize) -> Part
 }
 
 // Where a cursor stands. The image was accepted before, so that no refusal is met.
-fn place_of(cursor: Next) -> usize
+pub fn place_of(cursor: Next) -> usize
     ensures { λ r. ⌜ ((n : ℕ) → cursor ≡ Next.At n → r ≡ n) ⌝ }
 {
     match cursor {

@@ -144,6 +144,7 @@ impl<'a> Sizes<'a> {
         self.steps.charge_slot(id)?;
         let slot = id.index() as usize;
         self.working[slot] = true;
+        self.steps.enter();
         let size = match self.schema.registry.get(id) {
             Some(TypeDef::Message(message)) => self.sum(&message.fields),
             Some(TypeDef::Union(un)) => {
@@ -151,6 +152,7 @@ impl<'a> Sizes<'a> {
             }
             _ => Ok(ANY),
         };
+        self.steps.leave();
         self.working[slot] = false;
         size
     }
@@ -194,6 +196,13 @@ impl<'a> Sizes<'a> {
     }
 
     fn of_type(&mut self, ty: &ResolvedType) -> Worked<Size> {
+        self.steps.enter();
+        let size = self.of_kind(ty);
+        self.steps.leave();
+        size
+    }
+
+    fn of_kind(&mut self, ty: &ResolvedType) -> Worked<Size> {
         Ok(match ty {
             ResolvedType::Primitive(primitive) => fixed(primitive_bits(*primitive)),
             ResolvedType::SubByte(sub) => fixed(sub.bits.into()),

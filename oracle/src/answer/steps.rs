@@ -14,6 +14,9 @@ pub const STEP_LIMIT: u64 = 400_000;
 
 pub struct Steps {
     left: u64,
+    /// Calls that stand one in another, now and at most.
+    depth: u64,
+    deepest: u64,
     /// Per slot: nodes of the types that working it out goes through.
     weights: Vec<u64>,
 }
@@ -27,8 +30,24 @@ impl Steps {
         });
         Self {
             left: limit,
+            depth: 0,
+            deepest: 0,
             weights: weights.collect(),
         }
+    }
+
+    pub fn deepest(&self) -> u64 {
+        self.deepest
+    }
+
+    /// A call begins within the one before it.
+    pub fn enter(&mut self) {
+        self.depth += 1;
+        self.deepest = self.deepest.max(self.depth);
+    }
+
+    pub fn leave(&mut self) {
+        self.depth -= 1;
     }
 
     fn charge(&mut self, steps: u64) -> Result<(), TooLong> {

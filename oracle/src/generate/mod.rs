@@ -2,6 +2,9 @@
 
 pub mod bounds;
 mod damage;
+pub mod deep;
+pub mod edges;
+pub mod findings;
 pub mod full;
 mod limits;
 pub mod loops;
@@ -9,6 +12,7 @@ mod nesting;
 pub mod schemas;
 mod traits;
 mod trees;
+mod turns;
 
 use crate::model::Schema;
 use crate::random::Random;
@@ -84,7 +88,33 @@ pub static FAMILIES: &[Family] = &[
     family("trailing", 300, damage::trailing),
     family("random-bytes", 1_500, damage::random_bytes),
     family("full", 4, full::full),
+    family("edges", 1_500, edges::edges),
+    family("turns", 500, |random, emit| {
+        one(turns::taken_again(random), emit)
+    }),
+    family("deep", 4, |random, emit| one(deep::deep(random), emit)),
+    family("endless", 1_000, |random, emit| {
+        one(findings::endless(random), emit)
+    }),
+    family("trait-fields", 2_000, |random, emit| {
+        one(findings::trait_fields(random), emit)
+    }),
+    family("many-findings", 20, |random, emit| {
+        one(findings::many(random), emit)
+    }),
 ];
+
+/// The first families, which the recorded answers of reading are drawn from:
+/// they stay as they are, or the recorded images change.
+const READING: usize = 20;
+
+/// Which families images are drawn from.
+#[derive(Debug, Clone, Copy, PartialEq, Eq)]
+pub enum Families {
+    All,
+    Reading,
+    One(usize),
+}
 
 fn one(schema: Schema, emit: Emit<'_>) {
     emit(&schema.bytes());
@@ -95,18 +125,22 @@ pub fn family_named(name: &str) -> Option<usize> {
     FAMILIES.iter().position(|family| family.name == name)
 }
 
-/// The images of one batch. A batch is told by its seed and number alone;
-/// its family is `only`, or drawn by weight.
-pub fn batch(seed: u64, number: u64, only: Option<usize>, mut emit: impl FnMut(usize, &[u8])) {
+/// The images of one batch, which is told by its seed and number alone. Its
+/// family is drawn by weight.
+pub fn batch(seed: u64, number: u64, families: Families, mut emit: impl FnMut(usize, &[u8])) {
     let mut random = Random::new(seed, number);
-    let family = only.unwrap_or_else(|| drawn(&mut random));
+    let family = match families {
+        Families::One(family) => family,
+        Families::Reading => drawn(&mut random, &FAMILIES[..READING]),
+        Families::All => drawn(&mut random, FAMILIES),
+    };
     (FAMILIES[family].make)(&mut random, &mut |image| emit(family, image));
 }
 
-fn drawn(random: &mut Random) -> usize {
-    let total = FAMILIES.iter().map(|family| family.weight).sum();
+fn drawn(random: &mut Random, families: &[Family]) -> usize {
+    let total = families.iter().map(|family| family.weight).sum();
     let mut left = random.below(total);
-    for (index, family) in FAMILIES.iter().enumerate() {
+    for (index, family) in families.iter().enumerate() {
         if left < family.weight {
             return index;
         }

@@ -16,7 +16,8 @@ use Rattle.tree.specs.Tree.{Pair, pair, leaf}
 use Rattle.view.proofs.Places.{at-place}
 use Rattle.wiresize.proofs.Ended.{not-over}
 use Rattle.wiresize.proofs.Heads.{type-parts}
-use Rattle.wiresize.proofs.Onward.{goes-on, behind-head}
+use Rattle.view.proofs.Onward.{goes-on}
+use Rattle.wiresize.proofs.Onward.{behind-head}
 use Rattle.wiresize.proofs.Typing.{below-at, leaf-named, pair-result, name-sized, wrap-sized, result-sized, result-over, array-sized, parts-at, type-headed}
 use Rattle.wiresize.proofs.Measure.{name-in-type, child-in-wrap, element-in-array, ok-in-result, err-in-result}
 

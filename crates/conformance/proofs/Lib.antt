@@ -1,0 +1,5 @@
+pub mod Bodies
+pub mod Adding
+pub mod Required
+pub mod Targets
+pub mod Slots

@@ -1,0 +1,5 @@
+pub mod Lines
+pub mod Decimal
+pub mod Bound
+pub mod Whole
+pub mod Examples

@@ -1,0 +1,113 @@
+-- Arguments of parameters, looked up once for each occurrence of a plain name. A table by name holds where each argument
+-- stands: 0 not looked up, 1 no argument, else the argument's place + 2.
+use Prim.Native.Nat.{ℕ, zero, suc, _+_, _≤_, _<_}
+use mathlib.Core.Path.{_≡_}
+use mathlib.Core.List.{List, [], _∷_}
+use mathlib.Core.Bool.{Bool, cond}
+use lib.ListN.{length, getD}
+use lib.Dec.{ltb}
+use Rattle.number.specs.Grammar.{name, number, many, counted, done, read}
+use Rattle.tree.specs.Tree.{Tree, Leaf, leaf, primitive, subByte, semantic, named, bitsInline, qualified, wrap, fixedArray, pair, generic, leafKind, leafNumber}
+use Rattle.tree.specs.TreeAt.{treeAt}
+use Rattle.tree.specs.declared.Sort.the-variants.{Expression}
+use Rattle.slot.specs.Field.{typeAt}
+use Rattle.findings.specs.Meaning.{argumentOf}
+use Rattle.meanings.specs.declared.Found.{Found}
+
+-- how often plain names occur
+abbrev pub leafOccurs : Leaf → ℕ
+leafOccurs (primitive p) = 0
+leafOccurs (subByte g b) = 0
+leafOccurs (semantic m) = 0
+leafOccurs (named n) = 1
+leafOccurs (bitsInline ns) = 0
+leafOccurs (qualified n) = 0
+
+unfoldable pub occurs : Tree → ℕ
+occurs (leaf l) = leafOccurs l
+occurs (wrap w e) = occurs e
+occurs (fixedArray e n) = occurs e
+occurs (pair p e f) = occurs e + occurs f
+occurs (generic n e) = occurs e
+
+-- a property of each plain name
+abbrev pub AtLeaf : (ℕ → Type 0) → Leaf → Type 0
+AtLeaf P (primitive p) = Unit {0}
+AtLeaf P (subByte g b) = Unit {0}
+AtLeaf P (semantic m) = Unit {0}
+AtLeaf P (named n) = P n
+AtLeaf P (bitsInline ns) = Unit {0}
+AtLeaf P (qualified n) = Unit {0}
+
+unfoldable pub AtNames : (ℕ → Type 0) → Tree → Type 0
+AtNames P (leaf l) = AtLeaf P l
+AtNames P (wrap w e) = AtNames P e
+AtNames P (fixedArray e n) = AtNames P e
+AtNames P (pair p e f) = AtNames P e × AtNames P f
+AtNames P (generic n e) = AtNames P e
+
+-- what an answer on the argument of a name says
+unfoldable pub IsArgument : (names : ℕ) → (s : List ℕ) → (ps : List ℕ) → (ts : List Tree) → (n : ℕ) → Found → Type 0
+IsArgument names s ps ts n (Found.At q) =
+    (t : Tree) × (end : ℕ) × (read (typeAt names) s q ≡ done t end) × ((d : Tree) → argumentOf ps ts n d ≡ t)
+IsArgument names s ps ts n Found.Nothing = (d : Tree) → argumentOf ps ts n d ≡ d
+
+-- how the table holds an answer, and what a place of it says
+abbrev pub codeOf : Found → ℕ
+codeOf (Found.At q) = cond (ltb q 65536) (q + 2) 1
+codeOf Found.Nothing = 1
+
+abbrev pub foundOf : ℕ → Found
+foundOf zero = Found.Nothing
+foundOf (suc zero) = Found.Nothing
+foundOf (suc (suc q)) = Found.At q
+
+-- a name that was looked up
+abbrev pub Known : (places : List ℕ) → (n : ℕ) → Type 0
+Known places n = getD places n 0 ≡ 0 → ⊥
+
+-- what the table says of the names that were looked up is right
+pub record Sound (names : ℕ) (s ps : List ℕ) (ts : List Tree) (places : List ℕ) : Type 0 where
+  pub right : (n : ℕ) → Known places n → IsArgument names s ps ts n (foundOf (getD places n 0))
+
+-- the parameters at one place, and the types from another on
+pub record Bound (names : ℕ) (s : List ℕ) (parameters start arguments : ℕ) (ps : List ℕ) (ts : List Tree) : Type 0 where
+  pub parametersEnd : ℕ
+  pub parametersRead : read (counted (number name names)) s parameters ≡ done ps parametersEnd
+  pub argumentsEnd : ℕ
+  pub argumentsRead : read (many arguments (typeAt names)) s start ≡ done ts argumentsEnd
+
+-- what looking up the names of an expression does to the table, and how many look-ups it takes
+pub record Noted (names : ℕ) (s ps : List ℕ) (ts : List Tree) (e : Tree) (before after : List ℕ) (count : ℕ) : Type 0 where
+  pub counted : count ≡ occurs e
+  pub sound : Sound names s ps ts before → Sound names s ps ts after
+  pub grown : (n : ℕ) → Known before n → Known after n
+  pub known : AtNames (Known after) e
+  pub long : length after ≡ length before
+
+-- the contracts
+abbrev pub RightFirst : (names : ℕ) → (s : List ℕ) → (at n : ℕ) → Bool → Type 0
+RightFirst names s at n r =
+    (ps : List ℕ) (m : ℕ) → read (counted (number name names)) s at ≡ done ps m → (t d : Tree) → argumentOf ps (t ∷ []) n d ≡ cond r t d
+
+abbrev pub RightArgumentIn : (names : ℕ) → (s : List ℕ) → (first count start arguments n : ℕ) → Found → Type 0
+RightArgumentIn names s first count start arguments n r =
+    (ps : List ℕ) (ts : List Tree) (m k : ℕ) → read (many count (number name names)) s first ≡ done ps m
+    → read (many arguments (typeAt names)) s start ≡ done ts k → IsArgument names s ps ts n r
+
+abbrev pub RightArgument : (names : ℕ) → (s : List ℕ) → (parameters start arguments n : ℕ) → Found → Type 0
+RightArgument names s parameters start arguments n r =
+    (ps : List ℕ) (ts : List Tree) → Bound names s parameters start arguments ps ts → IsArgument names s ps ts n r
+
+abbrev pub RightNote : (names : ℕ) → (s : List ℕ) → (kind v parameters start arguments : ℕ) → (before after : List ℕ) → (count : ℕ) → Type 0
+RightNote names s kind v parameters start arguments before after count =
+    (ps : List ℕ) (ts : List Tree) → Bound names s parameters start arguments ps ts → length s ≤ 65536
+    → (l : Leaf) → leafKind l ≡ kind → leafNumber l ≡ v → (kind ≡ 3 → v < length before)
+    → Noted names s ps ts (leaf l) before after count
+
+-- of an expression that was read; of other bytes nothing is said
+abbrev pub RightLook : (names levels : ℕ) → (s : List ℕ) → (at parameters start arguments : ℕ) → (before after : List ℕ) → (count next : ℕ) → Type 0
+RightLook names levels s at parameters start arguments before after count next =
+    (ps : List ℕ) (ts : List Tree) → Bound names s parameters start arguments ps ts → length s ≤ 65536 → names ≤ length before
+    → (e : Tree) (end : ℕ) → read (treeAt Expression names levels) s at ≡ done e end
+    → Noted names s ps ts e before after count × (next ≡ end)

@@ -1,0 +1,251 @@
+-- Findings of a message, of a declaration, and of all declarations. Assumes nothing.
+use Prim.Native.Nat.{ℕ, suc, _+_, _*_, _-_, _^_, _<_, _≤_}
+use mathlib.Core.Path.{_≡_, refl, sym, ap, ap₂, subst, _∙_}
+use mathlib.Core.List.{List, [], _∷_, _++_, append-assoc}
+use mathlib.Core.Bool.{Bool, true, false, true≢false}
+use native.Mathlib.Omega.{arith}
+use lib.ListN.{length, getD, replicate, length-append, length-replicate, replicate-append-replicate, List·getD-eq-default}
+use Rattle.number.specs.Grammar.{slot, value, number, many, done, refused, below, read}
+use Rattle.number.proofs.Reading.{read-done, read-number, given, not-done, front}
+use Rattle.slot.specs.Field.{Span, spanAt, storedAt, fieldsAt}
+use Rattle.slot.specs.Slot.{Slot, empty, message, enum, flags, union, newtype, config, alias, trait, impl, Message, messageAt, slotKind, slotBodyAt}
+use Rattle.slot.proofs.Whole.{made-of}
+use Rattle.image.specs.Schema.{Schema, slotOf}
+use Rattle.image.specs.declared.Frame.{Frame}
+use Rattle.reader.specs.Reading.{schemaOf}
+use Rattle.reader.specs.Promise.{Promise}
+use Rattle.view.proofs.Fetching.{Behind}
+use Rattle.findings.specs.Finding.{finding, noted}
+use Rattle.findings.specs.Endless.{endlessAt, endlessOf}
+use Rattle.findings.specs.declared.Finding.{Finding}
+use Rattle.parts.specs.Names.{isMessage}
+use Rattle.parts.specs.Lists.{Listable, Tabled}
+use Rattle.parts.proofs.Tabling.{all-fit}
+use Rattle.walks.specs.Walk.{Held, Counted}
+use Rattle.walks.proofs.Holding.{held}
+use Rattle.recursion.specs.Recursion.{Ready, Checked, Roomy, Tables, Takes, FindingAt, Adds}
+
+-- ## The finding of a message
+
+module _ (s : List ℕ) (at : ℕ) where
+  pub taken : (v n : ℕ) → below (2 ^ 32) s at ≡ done v n → Takes s at v n
+  taken v n e w m f = given (sym e ∙ f)
+
+  pub not-taken : (r p v n : ℕ) → below (2 ^ 32) s at ≡ refused r p → Takes s at v n
+  not-taken r p v n e w m f = absurd (not-done e f)
+
+pub finding-is : (s : List ℕ) (body i o n l k : ℕ) → Takes s body o n → Takes s n l k → FindingAt s body i (record { class = 1; slot = i; offset = o; length = l; a = 0; b = 0 })
+unfolding messageAt spanAt read
+finding-is s body i o n l k t u names m end e =
+    let a = read-done spanAt _ s body m end e in
+    let b = read-done (number value (2 ^ 32)) _ s body (a .first) (a .middle) (a .here) in
+    let c = read-done (number value (2 ^ 32)) _ s (b .middle) (a .first) (a .middle) (b .rest) in
+    let x = t (b .first) (b .middle) (sym (read-number value (2 ^ 32) s body) ∙ b .here) in
+    let y = u (c .first) (c .middle) (ap (below (2 ^ 32) s) (x .1) ∙ sym (read-number value (2 ^ 32) s (b .middle)) ∙ c .here) in
+    let d = read-done storedAt _ s (a .middle) m end (a .rest) in
+    let f = read-done (fieldsAt names) _ s (d .middle) m end (d .rest) in
+    let p : a .first ≡ m .span = ap (λ (z : Message). z .span) (given (f .rest) .0) in
+    let q = given (c .rest) .0 in
+    ap₂ (λ (g h : ℕ). finding 1 i (record { offset = g; length = h }) 0 0) (x .0) (y .0) ∙ ap (λ (z : Span). finding 1 i z 0 0) (q ∙ p)
+
+-- ## Findings that are alike
+
+none-more : (l : List Finding) → l ++ [] ≡ l
+none-more [] = refl
+none-more (x ∷ l) = ap (λ (k : List Finding). x ∷ k) (none-more l)
+
+-- `left` of `more` findings are still to come, and n are in the table or would be
+pub record Putting (before : List ℕ) (count : ℕ) (x : Finding) (more left n : ℕ) (now : List ℕ) : Type 0 where
+  pub put : ℕ
+  pub counts : n ≡ count + put
+  pub rest : put + left ≡ more
+  pub table : (l : List Finding) → length l ≡ count → before ≡ noted (length before) l → now ≡ noted (length before) (l ++ replicate put x)
+
+module _ (before : List ℕ) (count : ℕ) (x : Finding) (more : ℕ) where
+  pub put-start : Putting before count x more more count before
+  put-start = record { put = 0; counts = omega arith; rest = omega arith; table = λ l h e. e ∙ ap (noted (length before)) (sym (none-more l)) }
+
+  module _ (left n : ℕ) (now : List ℕ) (p : Putting before count x more left n now) where
+    pub put-on : 0 < left → length now ≡ length before → (after : List ℕ)
+        → ((l : List Finding) → length l ≡ n → now ≡ noted (length now) l → after ≡ noted (length now) (l ++ (x ∷ [])))
+        → Putting before count x more (left - 1) (n + 1) after
+    put-on h long after f =
+        record {
+          put = p .put + 1;
+          counts = omega (arith, p .counts);
+          rest = omega (arith, p .rest);
+          table = λ l k e.
+              let w = p .table l k e in
+              let c : length (l ++ replicate (p .put) x) ≡ n = length-append l (replicate (p .put) x) ∙ omega (arith, length-replicate (p .put) x, p .counts) in
+              f (l ++ replicate (p .put) x) c (w ∙ ap (λ (m : ℕ). noted m (l ++ replicate (p .put) x)) (sym long))
+              ∙ ap₂ noted long (append-assoc l (replicate (p .put) x) (x ∷ []) ∙ ap (λ (k : List Finding). l ++ k) (replicate-append-replicate (p .put) 1 x));
+        }
+
+    pub put-end : left ≤ 0 → Adds before now count (replicate more x) n
+    put-end h =
+        let e : p .put ≡ more = omega (arith, p .rest) in
+        record {
+          table = λ l k f. p .table l k f ∙ ap (λ (m : ℕ). noted (length before) (l ++ replicate m x)) e;
+          counts = omega (arith, p .counts, e, length-replicate more x);
+        }
+
+-- ## A declaration
+
+module _ (t : List ℕ) (count : ℕ) where
+  adds-none : (more : List Finding) → [] ≡ more → Adds t t count more count × (count ≤ count + 65536)
+  adds-none more e = (
+    record {
+      table = λ l h f. f ∙ ap (noted (length t)) (sym (none-more l) ∙ ap (λ (k : List Finding). l ++ k) e);
+      counts = omega (arith, ap length e);
+    },
+    omega arith,
+  )
+
+  module _ (S : Schema) (i : ℕ) where
+    pub slot-past : {n : ℕ} → n ≡ length (S .slots) → n ≤ i → Adds t t count (endlessAt S i (slotOf S i)) count × (count ≤ count + 65536)
+    unfolding slotOf
+    slot-past e h = adds-none _ (ap (endlessAt S i) (sym (List·getD-eq-default (S .slots) empty {n = i} (omega arith))))
+
+    slot-other : (x : Slot) → isMessage x ≡ false → Adds t t count (endlessAt S i x) count × (count ≤ count + 65536)
+    slot-other (message m) h = absurd (true≢false h)
+    slot-other empty h = adds-none _ refl
+    slot-other (enum e) h = adds-none _ refl
+    slot-other (flags f) h = adds-none _ refl
+    slot-other (union u) h = adds-none _ refl
+    slot-other (newtype n) h = adds-none _ refl
+    slot-other config h = adds-none _ refl
+    slot-other (alias a) h = adds-none _ refl
+    slot-other (trait y) h = adds-none _ refl
+    slot-other (impl y) h = adds-none _ refl
+
+    pub slot-not : {messages : List Bool} {first parts : List ℕ} → Held S messages first parts → getD messages i false ≡ false
+        → Adds t t count (endlessAt S i (slotOf S i)) count × (count ≤ count + 65536)
+    slot-not h e = slot-other (slotOf S i) (sym (h .message i) ∙ e)
+
+message-in : (x : Slot) → isMessage x ≡ true → (m : Message) × (x ≡ message m)
+message-in (message m) h = (m, refl)
+message-in empty h = absurd (true≢false (sym h))
+message-in (enum e) h = absurd (true≢false (sym h))
+message-in (flags f) h = absurd (true≢false (sym h))
+message-in (union u) h = absurd (true≢false (sym h))
+message-in (newtype n) h = absurd (true≢false (sym h))
+message-in config h = absurd (true≢false (sym h))
+message-in (alias a) h = absurd (true≢false (sym h))
+message-in (trait y) h = absurd (true≢false (sym h))
+message-in (impl y) h = absurd (true≢false (sym h))
+
+-- a message, from its kind and its body
+message-reads : (names : ℕ) (s : List ℕ) (x : Slot) (kind body : ℕ) → Behind names s x kind body → (m : Message) → x ≡ message m → (end : ℕ) × (read (messageAt names) s body ≡ done m end)
+unfolding slotBodyAt
+message-reads names s x kind body b m e =
+    let k : 1 ≡ kind = sym (ap slotKind e) ∙ b .kindIs in
+    let r : read (slotBodyAt names 1) s body ≡ done (message m) (b .end) = ap (λ (j : ℕ). read (slotBodyAt names j) s body) k ∙ b .reads ∙ ap (λ (y : Slot). done y (b .end)) e in
+    let d = made-of s message (messageAt names) body (message m) (b .end) r in
+    let q : d .held ≡ m = let p = d .slotIs in cc in
+    (b .end, d .reads ∙ ap (λ (y : Message). done y (b .end)) q)
+
+module _ (s : List ℕ) (messages : List Bool) (first parts : List ℕ) (h : Held (schemaOf s) messages first parts) (i : ℕ) (more : ℕ) (c : Counted messages first parts i more)
+    (t : List ℕ) (count : ℕ) where
+  abbrev S : Schema
+  S = schemaOf s
+
+  module _ (e : getD messages i false ≡ true) where
+    own : (m : Message) × (slotOf S i ≡ message m)
+    own = message-in (slotOf S i) (sym (h .message i) ∙ e)
+
+    all-of : endlessAt S i (slotOf S i) ≡ replicate more (finding 1 i (own .0 .span) 0 0)
+    all-of = ap (endlessAt S i) (own .1) ∙ ap (λ (n : ℕ). replicate n (finding 1 i (own .0 .span) 0 0)) (sym (c .count S h (own .0) (own .1)))
+
+    pub slot-free : more ≡ 0 → Adds t t count (endlessAt S i (slotOf S i)) count × (count ≤ count + 65536)
+    slot-free z = adds-none t count _ (sym (all-of ∙ ap (λ (n : ℕ). replicate n (finding 1 i (own .0 .span) 0 0)) z))
+
+    pub slot-found : (names kind body : ℕ) → Behind names s (slotOf S i) kind body → (x : Finding) → FindingAt s body i x → (t′ : List ℕ) (r : ℕ) → Adds t t′ count (replicate more x) r
+        → Adds t t′ count (endlessAt S i (slotOf S i)) r × (r ≤ count + 65536)
+    slot-found names kind body b x f t′ r a =
+        let w = message-reads names s (slotOf S i) kind body b (own .0) (own .1) in
+        let g : replicate more x ≡ endlessAt S i (slotOf S i) = ap (replicate more) (f names (own .0) (w .0) (w .1)) ∙ sym all-of in
+        (subst (λ (l : List Finding). Adds t t′ count l r) g a, omega (arith, a .counts, length-replicate more x, c .most))
+
+-- ## All declarations
+
+-- `left` places of the list are still to come at p, and the findings of the others are in the table
+pub record Turn (s before : List ℕ) (left p count : ℕ) (now : List ℕ) : Type 0 where
+  pub others : List ℕ
+  pub end : ℕ
+  pub reads : read (many left (number slot (2 ^ 32))) s p ≡ done others end
+  pub found : List Finding
+  pub whole : endlessOf (schemaOf s) (schemaOf s .declared) ≡ found ++ endlessOf (schemaOf s) others
+  pub table : now ≡ noted (length before) found
+  pub counts : count ≡ length found
+  pub most : count + 65536 * left ≤ 67108864
+
+module _ (s starts : List ℕ) (f : Frame) (promise : Promise s starts f) (before : List ℕ) (blank : before ≡ noted (length before) []) where
+  pub first-turn : Turn s before (f .declarations) (f .declared) 0 before
+  first-turn =
+      record {
+        others = schemaOf s .declared;
+        end = promise .declaredEnd;
+        reads = promise .declared;
+        found = [];
+        whole = refl;
+        table = blank;
+        counts = refl;
+        most = omega (arith, promise .fewDeclared);
+      }
+
+module _ (s before : List ℕ) (left p count : ℕ) (now : List ℕ) (t : Turn s before left p count now) where
+  module _ (h : 0 < left) where
+    declared-front : (i : ℕ) × (others : List ℕ) × (n : ℕ) × (below (2 ^ 32) s p ≡ done i n) × (read (many (left - 1) (number slot (2 ^ 32))) s n ≡ done others (t .end)) × (t .others ≡ i ∷ others)
+    declared-front =
+        let d : left ≡ suc (left - 1) = omega arith in
+        let w = front (number slot (2 ^ 32)) s (left - 1) p (t .others) (t .end) (rw d at (t .reads)) in
+        (w .first, w .others, w .middle, sym (read-number slot (2 ^ 32) s p) ∙ w .here, w .rest, w .whole)
+
+    pub small-count : count ≤ 2 ^ 27
+    small-count = omega (arith, t .most)
+
+    pub never-refused : (r q : ℕ) → below (2 ^ 32) s p ≡ refused r q → ⊥
+    never-refused r q e = not-done e (declared-front .3)
+
+    pub next-turn : (i n : ℕ) → below (2 ^ 32) s p ≡ done i n → length now ≡ length before → (after : List ℕ) (r : ℕ)
+        → Adds now after count (endlessAt (schemaOf s) i (slotOf (schemaOf s) i)) r × (r ≤ count + 65536) → Turn s before (left - 1) n r after
+    unfolding endlessOf
+    next-turn i n e long after r a =
+        let w = declared-front in
+        let g = given (sym e ∙ w .3) in
+        let more = endlessAt (schemaOf s) i (slotOf (schemaOf s) i) in
+        let own : t .others ≡ i ∷ w .1 = w .5 ∙ ap (λ (j : ℕ). j ∷ w .1) (sym (g .0)) in
+        record {
+          others = w .1;
+          end = t .end;
+          reads = ap (read (many (left - 1) (number slot (2 ^ 32))) s) (g .1) ∙ w .4;
+          found = t .found ++ more;
+          whole = t .whole ∙ ap (λ (ds : List ℕ). t .found ++ endlessOf (schemaOf s) ds) own ∙ sym (append-assoc (t .found) more (endlessOf (schemaOf s) (w .1)));
+          table = a .0 .table (t .found) (sym (t .counts)) (t .table ∙ ap (λ (m : ℕ). noted m (t .found)) (sym long)) ∙ ap (λ (m : ℕ). noted m (t .found ++ more)) long;
+          counts = a .0 .counts ∙ omega (arith, t .counts, length-append (t .found) more);
+          most = omega (arith, t .most, a .1);
+        }
+
+  pub last-turn : left ≤ 0 → Checked s before now count
+  unfolding many read endlessOf
+  last-turn h =
+      let z : left ≡ 0 = omega arith in
+      let k : [] ≡ t .others = given (rw z at (t .reads)) .0 in
+      let w : endlessOf (schemaOf s) (schemaOf s .declared) ≡ t .found = t .whole ∙ ap (λ (ds : List ℕ). t .found ++ endlessOf (schemaOf s) ds) (sym k) ∙ none-more (t .found) in
+      record { count = t .counts ∙ ap length (sym w); table = t .table ∙ ap (noted (length before)) (sym w); most = omega (arith, t .most) }
+
+-- ## The tables
+
+pub roomy : (n : ℕ) (s starts : List ℕ) (f : Frame) (findings : List ℕ) → Ready s starts f findings → length s ≤ 2 * n → n ≤ 32768 → Roomy s starts f findings (replicate n 0)
+roomy n s starts f findings r h k = let l = length-replicate {A = ℕ} n 0 in record { ready = r; room = omega arith; few = omega arith }
+
+pub listable : {s starts : List ℕ} {f : Frame} {findings parts : List ℕ} → Roomy s starts f findings parts → Listable s starts f (replicate 512 false) (replicate 513 0) parts
+listable r = record { promise = r .ready .promise; marks = refl; places = refl; room = r .room; few = r .few }
+
+pub tables : {s starts : List ℕ} {f : Frame} {findings before : List ℕ} → Roomy s starts f findings before → (messages : List Bool) (first parts : List ℕ)
+    → Tabled (schemaOf s .slots) messages first before parts → Tables s starts f messages first parts
+tables {s} r messages first parts t =
+    record {
+      promise = r .ready .promise;
+      held = held (schemaOf s) messages first _ parts t (all-fit _ _ _ _ _ _ (listable r)) (omega (arith, r .ready .promise .few, r .ready .promise .count)) (r .few);
+    }

@@ -1,0 +1,63 @@
+-- What the search for a trait field asks for, and what it answers.
+use Prim.Native.Nat.{ℕ}
+use mathlib.Core.Path.{_≡_}
+use mathlib.Core.List.{List}
+use mathlib.Core.Bool.{Bool}
+use Rattle.number.specs.Grammar.{many, done, read}
+use Rattle.tree.specs.Tree.{Tree}
+use Rattle.slot.specs.Field.{typeAt, expressionAt, Field, fieldAt}
+use Rattle.image.specs.declared.Frame.{Frame}
+use Rattle.reader.specs.Reading.{schemaOf}
+use Rattle.findings.specs.Meaning.{meaningOf}
+use Rattle.findings.specs.Conformance.{isField, hasField}
+use Rattle.meanings.specs.Places.{AtNames, Known, Sound}
+use Rattle.meanings.specs.Scopes.{Ready}
+use Rattle.search.specs.declared.FieldHead.{FieldHead}
+
+-- a trait field's expression, whose names were looked up, where parameters stand for arguments
+pub record Expressed (names : ℕ) (s places : List ℕ) (at : ℕ) : Type 0 where
+  pub parameters : List ℕ
+  pub arguments : List Tree
+  pub sound : Sound names s parameters arguments places
+  pub tree : Tree
+  pub end : ℕ
+  pub reads : read (expressionAt names) s at ≡ done tree end
+  pub known : AtNames (Known places) tree
+
+abbrev pub meaningIn : {names : ℕ} {s places : List ℕ} {at : ℕ} → Expressed names s places at → Tree
+meaningIn {s = s} x = meaningOf (schemaOf s) (x .parameters) (x .arguments) (x .tree)
+
+-- a field's name, and where its type stands
+abbrev pub Heads : (names : ℕ) → (s : List ℕ) → (at : ℕ) → FieldHead → Type 0
+Heads names s at h =
+    (x : Field) (end : ℕ) → read (fieldAt names) s at ≡ done x end
+    → (x .fieldName ≡ h .name) × (read (typeAt names) s (h .place) ≡ done (x .type) end)
+
+-- a type stands at a place, and the trait field's expression at another
+pub record FieldAsked (s starts : List ℕ) (f : Frame) (finds places : List ℕ) (place expression : ℕ) : Type 0 where
+  pub ready : Ready s starts f finds
+  pub type : Tree
+  pub typeEnd : ℕ
+  pub typeRead : read (typeAt (f .names)) s place ≡ done type typeEnd
+  pub expressed : Expressed (f .names) s places expression
+
+abbrev pub IsField : (names : ℕ) → (s places : List ℕ) → FieldHead → (name expression : ℕ) → Bool → Type 0
+IsField names s places h name expression r =
+    (x : Field) (end : ℕ) → x .fieldName ≡ h .name → read (typeAt names) s (h .place) ≡ done (x .type) end
+    → (y : Expressed names s places expression) → r ≡ isField x name (meaningIn y)
+
+-- the fields of a message, and the trait field's expression
+pub record SearchAsked (s starts : List ℕ) (f : Frame) (finds places : List ℕ) (fields count expression : ℕ) : Type 0 where
+  pub ready : Ready s starts f finds
+  pub list : List Field
+  pub listEnd : ℕ
+  pub listRead : read (many count (fieldAt (f .names))) s fields ≡ done list listEnd
+  pub expressed : Expressed (f .names) s places expression
+
+-- whether one of the fields has the name and the type that the expression means
+abbrev pub HasField : (names : ℕ) → (s places : List ℕ) → (fields count name expression : ℕ) → Bool → Type 0
+HasField names s places fields count name expression r =
+    (fs : List Field) (end : ℕ) (ps : List ℕ) (ts : List Tree) (e : Tree) (n : ℕ)
+    → read (many count (fieldAt names)) s fields ≡ done fs end → Sound names s ps ts places
+    → read (expressionAt names) s expression ≡ done e n → AtNames (Known places) e
+    → r ≡ hasField fs name (meaningOf (schemaOf s) ps ts e)

@@ -1,0 +1,130 @@
+-- From sizes and findings to the answer and the tables that the caller holds. Assumes nothing.
+use Prim.Native.Nat.{ℕ, _+_, _*_, _^_, _≤_, _<_}
+use mathlib.Core.Path.{_≡_, refl, sym, ap, subst, _∙_}
+use mathlib.Core.List.{List, [], _++_}
+use mathlib.Core.Bool.{Bool, true, false, cond}
+use native.Mathlib.Omega.{arith}
+use lib.Dec.{ltb}
+use lib.ListN.{length, length-append}
+use borrow.Author.Tests.{lt-ltb, le-ltb}
+use Rattle.table.specs.Fitted.{fitted}
+use Rattle.table.proofs.Fitting.{fitted-length}
+use Rattle.image.specs.Schema.{Schema}
+use Rattle.reader.specs.Reading.{readingOf, schemaOf}
+use Rattle.reader.specs.declared.Reading.{Reading}
+use Rattle.sizes.specs.Check.{Checked, checkSizes}
+use Rattle.sizes.specs.Check as check
+use Rattle.sizes.specs.Demand.{Demand3}
+use Rattle.turns.specs.Sizing.{verdict, rowsIn, sizingIn, sizeRowsIn, sizingOf, sizesOf}
+use Rattle.turns.specs.Sizing as sizing
+use Rattle.turns.specs.declared.Sizing.{Sizing}
+use Rattle.findings.specs.Finding.{noted, rowsOf}
+use Rattle.findings.specs.Endless.{endlessOf}
+use Rattle.findings.specs.Conformance.{conformanceOf}
+use Rattle.findings.specs.Findings.{findingsOf}
+use Rattle.findings.specs.declared.Finding.{Finding}
+use Rattle.recursion.specs.Recursion as endless
+use Rattle.conformance.specs.Adding.{Adds}
+use Rattle.typeck.specs.Check.{judged, verdictIn, verdictOf, onAccepted, sizeTable, findingTable, Answered, Found}
+use Rattle.typeck.specs.declared.Verdict.{Verdict}
+
+-- a table that holds findings, by its own length
+pub noted-itself : (t : List ℕ) (n : ℕ) (l : List Finding) → t ≡ noted n l → t ≡ noted (length t) l
+noted-itself t n l e = e ∙ ap (λ (k : ℕ). noted k l) (sym (fitted-length n (rowsOf l)) ∙ ap length (sym e))
+
+pub noted-length : (t : List ℕ) (n : ℕ) (l : List Finding) → t ≡ noted n l → length t ≡ n
+noted-length t n l e = ap length e ∙ fitted-length n (rowsOf l)
+
+-- the findings of both checks, one after the other
+pub both-noted : (s before t u : List ℕ) (n k : ℕ) → endless.Checked s before t n → Adds (2 ^ 25) t u n k (conformanceOf (schemaOf s) 0 (schemaOf s .slots))
+    → (k ≡ length (findingsOf (schemaOf s))) × (u ≡ noted (length before) (findingsOf (schemaOf s)))
+unfolding findingsOf
+both-noted s before t u n k c a =
+    let S = schemaOf s in
+    let E = endlessOf S (S .declared) in
+    let C = conformanceOf S 0 (S .slots) in
+    let l = noted-length t (length before) E (c .table) in (
+      a .answer ∙ ap (λ (m : ℕ). m + length C) (c .count) ∙ sym (length-append E C),
+      a .table E (sym (c .count)) (noted-itself t (length before) E (c .table)) ∙ ap (λ (m : ℕ). noted m (E ++ C)) l,
+    )
+
+module _ (s sizes findings : List ℕ) where
+  -- refusal 12
+  pub no-places : (count : ℕ) (a b t : List ℕ) → (count ≡ length (findingsOf (schemaOf s))) × (t ≡ noted (length findings) (findingsOf (schemaOf s)))
+      → length t < 6 * count → a ≡ fitted (length sizes) [] → b ≡ fitted (length t) [] → Found s sizes a findings b (Verdict.Refused 12 0)
+  unfolding judged
+  no-places count a b t n h x y =
+      let e = n .0 in
+      let l = noted-length t (length findings) _ (n .1) in
+      record {
+        answer = simp (lt-ltb (length findings) (6 * length (findingsOf (schemaOf s))) (omega arith));
+        sizeTable = x;
+        findingTable = y ∙ ap (λ (k : ℕ). fitted k []) l;
+      }
+
+  pub all-found : (count : ℕ) (t : List ℕ) → (count ≡ length (findingsOf (schemaOf s))) × (t ≡ noted (length findings) (findingsOf (schemaOf s)))
+      → 6 * count ≤ length t → Found s sizes sizes findings t (Verdict.Accepted count)
+  unfolding judged
+  all-found count t n h =
+      let e = n .0 in
+      let l = noted-length t (length findings) _ (n .1) in
+      record {
+        answer = simp (le-ltb (length findings) (6 * length (findingsOf (schemaOf s))) (omega arith)) (ap Verdict.Accepted e);
+        sizeTable = refl;
+        findingTable = n .1;
+      }
+
+  -- the sizes stand, and the findings were looked for
+  pub found-said : (z : Sizing) (mid after cleared b : List ℕ) (r : Verdict) → sizing.Answered s sizes mid z → z ≡ Sizing.Accepted
+      → length cleared ≡ length findings → Found s mid after cleared b r → Answered s sizes after findings b r
+  unfolding verdictOf verdictIn sizeTable findingTable sizesOf
+  found-said z mid after cleared b r d e q f =
+      let a : r ≡ verdictOf (length sizes) (length findings) s
+      = f .answer ∙ ap (λ (n : ℕ). judged n (schemaOf s)) q ∙ ap (verdictIn (length findings) (schemaOf s)) (sym e ∙ d .answer) in
+      let n : length mid ≡ length sizes = ap length (d .table) ∙ fitted-length (length sizes) _ in
+      record {
+        answer = a;
+        sizeTable = f .sizeTable ∙ ap (λ (k : ℕ). onAccepted r k mid) n ∙ ap (onAccepted r (length sizes)) (d .table) ∙ ap (λ (v : Verdict). onAccepted v (length sizes) (sizesOf (length sizes) s)) a;
+        findingTable = f .findingTable
+            ∙ ap (λ (k : ℕ). onAccepted r k (noted k (findingsOf (schemaOf s)))) q
+            ∙ ap (λ (v : Verdict). onAccepted v (length findings) (noted (length findings) (findingsOf (schemaOf s)))) a;
+        demand = λ m h. subst (λ (t : List ℕ). Demand3 (schemaOf s) t) (sym (f .sizeTable ∙ ap (λ (v : Verdict). onAccepted v (length mid) mid) h)) (d .demand e);
+      }
+
+verdict-rows : (S : Schema) (c : Checked) (n i : ℕ) → verdict c ≡ Sizing.Refused n i → rowsIn S c ≡ []
+verdict-rows S (check.accepted st) n i e = let z : _≡_ {A = ℕ} 0 1 = cc in absurd (omega arith)
+verdict-rows S (check.refused j) n i e = refl
+
+-- on a refusal there are no rows
+no-rows : (places : ℕ) (S : Schema) (x : Reading) (n i : ℕ) → sizingIn places S x ≡ Sizing.Refused n i → sizeRowsIn places S x ≡ []
+unfolding sizingIn sizeRowsIn
+no-rows places S (Reading.Refused r p) n i e = refl
+no-rows places S (Reading.Accepted f) n i e = go (ltb places (3 * length (S .slots))) e
+  where
+    go : (b : Bool) → cond b (Sizing.Refused 10 0) (verdict (checkSizes S)) ≡ Sizing.Refused n i → cond b [] (rowsIn S (checkSizes S)) ≡ []
+    go true h = refl
+    go false h = verdict-rows S (checkSizes S) n i h
+
+not-accepted : {n p m : ℕ} → Verdict.Refused n p ≡ Verdict.Accepted m → ⊥
+not-accepted e = let z : _≡_ {A = ℕ} 0 1 = cc in omega arith
+
+-- a refusal from 1 to 11
+pub refused-said : (s sizes findings : List ℕ) (z : Sizing) (n i : ℕ) (after b : List ℕ) → sizing.Answered s sizes after z → z ≡ Sizing.Refused n i
+    → b ≡ fitted (length findings) [] → Answered s sizes after findings b (Verdict.Refused n i)
+unfolding verdictOf verdictIn sizeTable findingTable sizingOf sizesOf
+refused-said s sizes findings z n i after b d e q =
+    let k = sym (d .answer) ∙ e in
+    let a : Verdict.Refused n i ≡ verdictOf (length sizes) (length findings) s = ap (verdictIn (length findings) (schemaOf s)) (sym k) in
+    record {
+      answer = a;
+      sizeTable = d .table ∙ ap (fitted (length sizes)) (no-rows (length sizes) (schemaOf s) (readingOf s) n i k) ∙ ap (λ (v : Verdict). onAccepted v (length sizes) (sizesOf (length sizes) s)) a;
+      findingTable = q ∙ ap (λ (v : Verdict). onAccepted v (length findings) (noted (length findings) (findingsOf (schemaOf s)))) a;
+      demand = λ m h. absurd (not-accepted h);
+    }
+
+-- a table that was cleared
+pub cleared-length : (n : ℕ) (u : List ℕ) → u ≡ fitted n [] → length u ≡ n
+cleared-length n u e = ap length e ∙ fitted-length n []
+
+pub cleared-itself : (n : ℕ) (u : List ℕ) → u ≡ fitted n [] → u ≡ fitted (length u) []
+cleared-itself n u e = e ∙ ap (λ (k : ℕ). fitted k []) (sym (cleared-length n u e))

@@ -1,0 +1,64 @@
+-- The whole check: from an image and the places of the two tables to the answer and what the tables hold afterwards.
+use Prim.Native.Nat.{ℕ, _*_}
+use mathlib.Core.Path.{_≡_}
+use mathlib.Core.List.{List, []}
+use mathlib.Core.Bool.{cond}
+use lib.ListN.{length}
+use lib.Dec.{ltb}
+use Rattle.table.specs.Fitted.{fitted}
+use Rattle.image.specs.Schema.{Schema}
+use Rattle.reader.specs.Reading.{schemaOf}
+use Rattle.sizes.specs.Demand.{Demand3}
+use Rattle.turns.specs.Sizing.{sizingOf, sizesOf}
+use Rattle.turns.specs.declared.Sizing.{Sizing}
+use Rattle.findings.specs.Finding.{noted}
+use Rattle.findings.specs.Findings.{findingsOf}
+use Rattle.typeck.specs.declared.Verdict.{Verdict}
+
+-- document 01's number of an answer, 0 for acceptance; and its value: how many findings, or the refusal's place
+abbrev pub numberOf : Verdict → ℕ
+numberOf (Verdict.Accepted n) = 0
+numberOf (Verdict.Refused r p) = r
+
+abbrev pub valueOf : Verdict → ℕ
+valueOf (Verdict.Accepted n) = n
+valueOf (Verdict.Refused r p) = p
+
+-- refusal 12 where the findings table has under 6 places a finding
+unfoldable pub judged : (findingPlaces : ℕ) → Schema → Verdict
+judged q S = cond (ltb q (6 * length (findingsOf S))) (Verdict.Refused 12 0) (Verdict.Accepted (length (findingsOf S)))
+
+-- refusals 1 to 11 come before
+unfoldable pub verdictIn : (findingPlaces : ℕ) → Schema → Sizing → Verdict
+verdictIn q S (Sizing.Refused r p) = Verdict.Refused r p
+verdictIn q S Sizing.Accepted = judged q S
+
+-- the answer
+unfoldable pub verdictOf : (sizePlaces findingPlaces : ℕ) → List ℕ → Verdict
+verdictOf p q s = verdictIn q (schemaOf s) (sizingOf p s)
+
+-- a table on acceptance, and zeros on a refusal
+abbrev pub onAccepted : Verdict → (places : ℕ) → List ℕ → List ℕ
+onAccepted (Verdict.Accepted n) places t = t
+onAccepted (Verdict.Refused r i) places t = fitted places []
+
+-- three numbers a slot, and zeros after them
+unfoldable pub sizeTable : (sizePlaces findingPlaces : ℕ) → List ℕ → List ℕ
+sizeTable p q s = onAccepted (verdictOf p q s) p (sizesOf p s)
+
+-- six numbers a finding, and zeros after them
+unfoldable pub findingTable : (sizePlaces findingPlaces : ℕ) → List ℕ → List ℕ
+findingTable p q s = onAccepted (verdictOf p q s) q (noted q (findingsOf (schemaOf s)))
+
+-- what is said of the answer and of both tables that the caller holds afterwards; on acceptance demand 3 holds of the sizes
+pub record Answered (s sizes sizesAfter findings findingsAfter : List ℕ) (r : Verdict) : Type 0 where
+  pub answer : r ≡ verdictOf (length sizes) (length findings) s
+  pub sizeTable : sizesAfter ≡ sizeTable (length sizes) (length findings) s
+  pub findingTable : findingsAfter ≡ findingTable (length sizes) (length findings) s
+  pub demand : (n : ℕ) → r ≡ Verdict.Accepted n → Demand3 (schemaOf s) sizesAfter
+
+-- the same of an image whose sizes stand in the table
+pub record Found (s sizes sizesAfter findings findingsAfter : List ℕ) (r : Verdict) : Type 0 where
+  pub answer : r ≡ judged (length findings) (schemaOf s)
+  pub sizeTable : sizesAfter ≡ onAccepted r (length sizes) sizes
+  pub findingTable : findingsAfter ≡ onAccepted r (length findings) (noted (length findings) (findingsOf (schemaOf s)))

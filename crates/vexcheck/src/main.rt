@@ -1,0 +1,85 @@
+// Reads an image from standard input, checks it, and writes its size table and findings, or why it is refused.
+
+use libc::STDIN_FILENO;
+use libc::STDOUT_FILENO;
+use typeck::Verdict;
+ghost use Prim.Native.Nat.{_≤_};
+ghost use lib.ListN.{length};
+ghost use Rattle.lines.specs.Lines.{Holds};
+ghost use Rattle.vexcheck.specs.Text.{textOf, textFor, countOf};
+
+// What standard input gave: so many bytes, or a read that failed.
+enum Taken {
+    Bytes(usize),
+    Failed,
+}
+
+// One read: how many bytes it put at the front of the buffer, or that it failed.
+fn take_some(buf: &mut [u8]) -> Taken
+    ensures { λ r. ⌜ countOf r ≤ length (now (buf .exit)) ⌝ }
+{
+    let got = libc::read(STDIN_FILENO, buf);
+    if got < 0 {
+        return Taken::Failed;
+    }
+    let n = io::count(got, buf);
+    Taken::Bytes(n)
+}
+
+// Reads until the buffer is full, the input ends or a read fails.
+fn take_all(buf: &mut [u8]) -> Taken
+    ensures { λ r. ⌜ countOf r ≤ length (now (buf .exit)) ⌝ }
+{
+    let mut at: usize = 0;
+    while at < buf.len() {
+        match take_some(&mut buf[at..]) {
+            Taken::Failed => {
+                return Taken::Failed;
+            }
+            Taken::Bytes(n) => {
+                if n == 0 {
+                    return Taken::Bytes(at);
+                }
+                at += n;
+            }
+        }
+    }
+    Taken::Bytes(at)
+}
+
+fn write_verdict(verdict: Verdict, sizes: &[u64], findings: &[u32], out: &mut [u8]) -> usize
+    ensures { λ r. ⌜ Holds (length (now (out .entry))) (textOf verdict (now (sizes .entry)) (now (findings .entry))) (now (out .exit)) r ⌝ }
+{
+    match verdict {
+        Verdict::Accepted(count) => lines::write_accepted(sizes, findings, count, out),
+        Verdict::Refused(number, place) => lines::write_refused(number as u64, place, out),
+    }
+}
+
+// Places for 512 slots and 1,000 findings.
+fn report(image: &[u8], out: &mut [u8]) -> usize
+    ensures { λ r. ⌜ Holds (length (now (out .entry))) (textFor (now (image .entry))) (now (out .exit)) r ⌝ }
+{
+    let mut sizes = [0u64; 1536];
+    let mut findings = [0u32; 6000];
+    let verdict = typeck::check(image, &mut sizes, &mut findings);
+    write_verdict(verdict, &sizes, &findings, out)
+}
+
+// The text of whatever standard input brings.
+fn answer(image: &mut [u8], out: &mut [u8]) -> usize
+    ensures { λ r. ⌜ r ≤ length (now (out .exit)) ⌝ }
+{
+    match take_all(image) {
+        Taken::Failed => lines::write_refused(0, 0, out),
+        Taken::Bytes(n) => report(&image[0..n], out),
+    }
+}
+
+// One byte more than an image may have; 180,000 bytes hold every text.
+fn main() {
+    let mut image = [0u8; 65537];
+    let mut out = [0u8; 180000];
+    let used = answer(&mut image, &mut out);
+    io::write_all(STDOUT_FILENO, &out[0..used]);
+}

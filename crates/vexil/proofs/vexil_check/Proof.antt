@@ -1,0 +1,20 @@
+use Rattle.vexil.proofs.Saying.{check-said}
+use Rattle.typeck.specs.declared.Verdict.{Verdict}
+use borrow.Author.Needs.{needs}
+use Rattle.vexil.proofs.vexil_check.Statement.{statement}
+use Rattle.vexil.proofs.vexil_check.Tie as tie
+
+pub vexil-check-spec : {M : Type 1} → statement M
+vexil-check-spec =
+    tie.close
+    (tie.spec
+    (λ c κs. search needs)
+    (λ c. search needs)
+    (λ c. search needs)
+    (λ c. search needs)
+    (λ c. search needs)
+    (λ c. search needs)
+    (λ c. check-said _ _ _ _ _ _ (Verdict.Accepted _) (c .before .before .before .before .before .before .before .check .ensures) (c .before .count .given .1))
+    (λ c. search needs)
+    (λ c. search needs)
+    (λ c. check-said _ _ _ _ _ _ (Verdict.Refused _ _) (c .before .before .before .before .before .before .before .check .ensures) (c .before .number .given .1)))

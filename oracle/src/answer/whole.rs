@@ -1,0 +1,159 @@
+//! All that is worked out for an image before places are lent for it, so that
+//! one working-out answers for tables of any length.
+
+use super::findings::{findings, mark_spans};
+use super::sizes::{size_table, Stop};
+use super::steps::{Steps, TooLong, STEP_LIMIT};
+use super::{refused, Answer, Places};
+use crate::import::{import, Refusal};
+use crate::ir::{CompiledSchema, TypeDef, TypeId, WireSize};
+use crate::typeck::{check, compute_wire_sizes};
+
+#[derive(Debug, Clone, Copy, PartialEq, Eq)]
+enum Failure {
+    /// One of 1 to 9.
+    Read(Refusal),
+    /// Refusal 11, at this declared slot.
+    Limit(u64),
+    TooLong,
+}
+
+impl From<Stop> for Failure {
+    fn from(stop: Stop) -> Self {
+        match stop {
+            Stop::Limit { slot } => Failure::Limit(slot),
+            Stop::TooLong => Failure::TooLong,
+        }
+    }
+}
+
+/// Slot starts, sizes and findings of an image, or why there are none.
+#[derive(Debug, Clone)]
+pub struct Whole {
+    /// Where each slot starts; none if the image is refused on reading.
+    pub starts: Vec<u32>,
+    /// Most calls that stood one in another while sizes were worked out.
+    pub deepest: u64,
+    sizes: Result<Vec<u64>, Failure>,
+    findings: Result<Vec<u32>, TooLong>,
+}
+
+impl Whole {
+    /// Sizes and findings.
+    pub fn of(image: &[u8]) -> Self {
+        Self::worked(image, true)
+    }
+
+    /// Sizes alone; the findings are left out as if they took too long.
+    pub fn sizes_of(image: &[u8]) -> Self {
+        Self::worked(image, false)
+    }
+
+    fn worked(image: &[u8], with_findings: bool) -> Self {
+        let mut whole = Self {
+            starts: Vec::new(),
+            deepest: 0,
+            sizes: Err(Failure::TooLong),
+            findings: Err(TooLong),
+        };
+        match import(image) {
+            Ok(imported) => {
+                whole.starts = imported.starts;
+                whole.work_out(imported.schema, with_findings);
+            }
+            Err(refusal) => whole.sizes = Err(Failure::Read(refusal)),
+        }
+        whole
+    }
+
+    fn work_out(&mut self, mut schema: CompiledSchema, with_findings: bool) {
+        let mut steps = Steps::new(&schema, STEP_LIMIT);
+        let expected = size_table(&schema, &mut steps);
+        self.deepest = steps.deepest();
+        let expected = match expected {
+            Ok(table) => table,
+            Err(stop) => {
+                self.sizes = Err(stop.into());
+                return;
+            }
+        };
+        if with_findings && steps.charge_findings(&schema).is_ok() {
+            let spans = mark_spans(&mut schema);
+            let diagnostics = check(&mut schema);
+            self.findings = Ok(findings(&schema, &spans, &diagnostics).concat());
+        } else {
+            compute_wire_sizes(&mut schema);
+        }
+        let sizes = stored_table(&schema);
+        assert_eq!(sizes, expected, "sizes worked out here and upstream");
+        self.sizes = Ok(sizes);
+    }
+
+    /// The refusal of reading, if it is one.
+    pub fn refusal(&self) -> Option<Refusal> {
+        match self.sizes {
+            Err(Failure::Read(refusal)) => Some(refusal),
+            _ => None,
+        }
+    }
+
+    /// Numbers that the findings take, if they are known.
+    pub fn finding_places(&self) -> Option<usize> {
+        self.findings.as_ref().ok().map(Vec::len)
+    }
+
+    /// The answer as far as sizes go: without findings, and never refusal 12.
+    pub fn sizes_answer(&self, places: u64) -> Result<Answer, TooLong> {
+        match &self.sizes {
+            Err(Failure::Read(refusal)) => Ok((*refusal).into()),
+            _ if places < 3 * self.starts.len() as u64 => Ok(refused(10, 0)),
+            Err(Failure::Limit(slot)) => Ok(refused(11, *slot)),
+            Err(Failure::TooLong) => Err(TooLong),
+            Ok(sizes) => Ok(Answer::Accepted {
+                count: 0,
+                sizes: sizes.clone(),
+                findings: Vec::new(),
+            }),
+        }
+    }
+
+    pub fn answer(&self, places: Places) -> Result<Answer, TooLong> {
+        let sizes = match self.sizes_answer(places.sizes)? {
+            Answer::Accepted { sizes, .. } => sizes,
+            refused => return Ok(refused),
+        };
+        let findings = self.findings.clone()?;
+        if places.findings < findings.len() as u64 {
+            return Ok(refused(12, 0));
+        }
+        Ok(Answer::Accepted {
+            count: findings.len() as u64 / 6,
+            sizes,
+            findings,
+        })
+    }
+}
+
+/// The size table of a schema as it stands: three numbers a slot.
+fn stored_table(schema: &CompiledSchema) -> Vec<u64> {
+    let slots = 0..schema.registry.len() as u32;
+    let rows = slots.map(|slot| match schema.registry.get(TypeId(slot)) {
+        Some(TypeDef::Enum(en)) => [4, en.wire_bits.into(), 0],
+        Some(TypeDef::Flags(flags)) => [5, flags.wire_bytes.into(), 0],
+        Some(TypeDef::Message(message)) => size_row(&message.wire_size),
+        Some(TypeDef::Union(un)) => size_row(&un.wire_size),
+        _ => [0, 0, 0],
+    });
+    rows.flatten().collect()
+}
+
+fn size_row(size: &Option<WireSize>) -> [u64; 3] {
+    match *size {
+        None => [0, 0, 0],
+        Some(WireSize::Fixed(bits)) => [1, bits, bits],
+        Some(WireSize::Variable { min_bits, max_bits }) => match max_bits {
+            Some(max_bits) => [2, min_bits, max_bits],
+            None => [3, min_bits, 0],
+        },
+    }
+}

@@ -1,0 +1,313 @@
+//! Refusal 11 by each operation on sizes: the greatest size of an element that
+//! is accepted, and one bit more, with the answer that document 01 gives.
+
+use std::sync::OnceLock;
+
+use super::bounds::{add, Boundary};
+use super::Emit;
+use crate::format::SIZE_LIMIT;
+use crate::model::{
+    field, fixed, message, pair, wrap, Encoding, Field, Schema, Slot, Stored, Tree, BOOL, OPTIONAL,
+    RESULT, VEC2,
+};
+use crate::random::Random;
+
+/// All edges, made once.
+pub fn all_edges() -> &'static [Boundary] {
+    static ALL: OnceLock<Vec<Boundary>> = OnceLock::new();
+    ALL.get_or_init(|| {
+        let mut all = Vec::new();
+        for operation in OPERATIONS {
+            for form in FORMS {
+                for around in AROUND {
+                    edge(&mut all, operation, form, around);
+                }
+            }
+        }
+        running_totals(&mut all);
+        all
+    })
+}
+
+pub fn edges(random: &mut Random, emit: Emit<'_>) {
+    let all = all_edges();
+    emit(&all[random.below(all.len() as u64) as usize].image);
+}
+
+/// What an operation makes of an element, and the greatest smallest and
+/// largest size that the element may have; none where it does not count.
+struct Operation {
+    what: &'static str,
+    least: Option<u64>,
+    most: Option<u64>,
+    make: fn(Tree) -> Slot,
+}
+
+const fn operation(
+    what: &'static str,
+    least: Option<u64>,
+    most: Option<u64>,
+    make: fn(Tree) -> Slot,
+) -> Operation {
+    Operation {
+        what,
+        least,
+        most,
+        make,
+    }
+}
+
+const fn below(bits: u64) -> Option<u64> {
+    Some(SIZE_LIMIT - bits)
+}
+
+const fn part(factor: u64) -> Option<u64> {
+    Some(SIZE_LIMIT / factor)
+}
+
+const OPERATIONS: &[Operation] = &[
+    operation("field alone", None, None, one),
+    operation("sum", below(1), below(1), |part| of(&[part, BOOL])),
+    operation("sum after", below(1), below(1), |part| of(&[BOOL, part])),
+    operation("sum of itself", part(2), part(2), |part| {
+        of(&[part.clone(), part])
+    }),
+    operation("sum with Varint", below(8), below(24), |part| {
+        encoded(part, 1, Tree::Primitive(2))
+    }),
+    operation("sum with ZigZag", below(8), below(80), |part| {
+        encoded(part, 2, BOOL)
+    }),
+    operation("Optional", None, below(1), |part| one(wrap(OPTIONAL, part))),
+    operation("Result", below(1), below(1), |part| {
+        one(pair(RESULT, part.clone(), part))
+    }),
+    operation("Result ok", None, below(1), |part| {
+        one(pair(RESULT, part, BOOL))
+    }),
+    operation("Result err", None, below(1), |part| {
+        one(pair(RESULT, BOOL, part))
+    }),
+    operation("fixed array of 3", part(3), None, |part| {
+        one(fixed(part, 3))
+    }),
+    operation("fixed array of 0", None, None, |part| one(fixed(part, 0))),
+    operation("Vec2", part(2), part(2), |part| one(wrap(VEC2, part))),
+    operation("Vec3", part(3), part(3), |part| one(wrap(11, part))),
+    operation("Vec4", part(4), part(4), |part| one(wrap(12, part))),
+    operation("Quat", part(4), part(4), |part| one(wrap(13, part))),
+    operation("Mat3", part(9), part(9), |part| one(wrap(14, part))),
+    operation("Mat4", part(16), part(16), |part| one(wrap(15, part))),
+    operation("Optional Vec2", part(2), part(2), |part| {
+        one(wrap(OPTIONAL, wrap(VEC2, part)))
+    }),
+    operation("Vec2 Optional", None, Some(SIZE_LIMIT / 2 - 1), |part| {
+        one(wrap(VEC2, wrap(OPTIONAL, part)))
+    }),
+    operation("variant", below(8), below(8), |part| {
+        union(vec![vec![field(0, part)]])
+    }),
+    operation("variant beside an empty one", None, below(8), |part| {
+        union(vec![vec![], vec![field(0, part)]])
+    }),
+    operation("sum in a variant", below(8), below(8), |part| {
+        union(vec![vec![field(0, part), field(0, Tree::Primitive(13))]])
+    }),
+    operation(
+        "running total of a variant",
+        below(1),
+        below(8 + 1),
+        |part| union(vec![vec![field(0, part), field(0, BOOL)], vec![]]),
+    ),
+];
+
+fn of(trees: &[Tree]) -> Slot {
+    message(0, trees.iter().map(|tree| field(0, tree.clone())).collect())
+}
+
+fn one(tree: Tree) -> Slot {
+    of(&[tree])
+}
+
+fn encoded(part: Tree, last: u64, tree: Tree) -> Slot {
+    let other = Field {
+        encoding: Encoding { deltas: 1, last },
+        ..field(0, tree)
+    };
+    message(0, vec![field(0, part), other])
+}
+
+fn union(variants: Vec<Vec<Field>>) -> Slot {
+    Slot::Union {
+        stored: Stored::None,
+        variants,
+    }
+}
+
+/// How the element has its size.
+#[derive(Debug, Clone, Copy, PartialEq, Eq)]
+enum Form {
+    /// A fixed array of Bool.
+    Array,
+    /// A stored size of each kind; the last has a largest of 0.
+    Fixed,
+    Open,
+    Largest,
+    Both,
+    Unordered,
+    /// A stored size of 1 at the first turn, the size at the second.
+    Turn,
+}
+
+const FORMS: [Form; 7] = [
+    Form::Array,
+    Form::Fixed,
+    Form::Open,
+    Form::Largest,
+    Form::Both,
+    Form::Unordered,
+    Form::Turn,
+];
+
+impl Form {
+    fn has_least(self) -> bool {
+        self != Form::Largest
+    }
+
+    fn has_most(self) -> bool {
+        !matches!(self, Form::Open | Form::Unordered)
+    }
+
+    fn tree(self, bits: u64) -> Tree {
+        match self {
+            Form::Array => fixed(BOOL, bits),
+            _ => Tree::Named(ELEMENT),
+        }
+    }
+
+    fn element(self, bits: u64) -> Slot {
+        let (stored, tree) = match self {
+            Form::Array => (Stored::None, BOOL),
+            Form::Fixed => (Stored::Fixed(bits), BOOL),
+            Form::Open => (Stored::Open(bits), BOOL),
+            Form::Largest => (Stored::Bounded(0, bits), BOOL),
+            Form::Both => (Stored::Bounded(bits, bits), BOOL),
+            Form::Unordered => (Stored::Bounded(bits, 0), BOOL),
+            Form::Turn => (Stored::Fixed(1), fixed(BOOL, bits)),
+        };
+        Slot::Message {
+            span: (0, 0),
+            stored,
+            fields: vec![field(0, tree)],
+        }
+    }
+}
+
+/// Slots: the operation, what is around it, the element, a newtype.
+const AROUND_SLOT: u64 = 1;
+const ELEMENT: u64 = 2;
+const NEWTYPE: u64 = 3;
+
+/// Where the operation stands.
+#[derive(Debug, Clone, Copy)]
+enum Around {
+    /// In a declared slot, after other declarations.
+    Declared,
+    /// In a slot not declared, named by a declared message.
+    Message,
+    /// The same, through a newtype.
+    Newtype,
+    /// In a declared slot, after one that names it as a Varint.
+    Varint,
+}
+
+const AROUND: [Around; 4] = [
+    Around::Declared,
+    Around::Message,
+    Around::Newtype,
+    Around::Varint,
+];
+
+impl Around {
+    fn slot(self) -> Slot {
+        match self {
+            Around::Declared => message(AROUND_SLOT, vec![field(0, BOOL)]),
+            Around::Message => message(AROUND_SLOT, vec![field(0, Tree::Named(0))]),
+            // A Varint of the operation's slot asks for no size of it.
+            Around::Varint => encoded(BOOL, 1, Tree::Named(0)),
+            Around::Newtype => message(AROUND_SLOT, vec![field(0, Tree::Named(NEWTYPE))]),
+        }
+    }
+
+    fn declarations(self, form: Form) -> Vec<u64> {
+        let place = self.place();
+        let mut list = match self {
+            Around::Declared => vec![AROUND_SLOT, 512, place],
+            Around::Varint => vec![AROUND_SLOT, place],
+            _ => vec![place],
+        };
+        if form == Form::Turn {
+            list.extend([ELEMENT, place]);
+        }
+        list
+    }
+
+    /// The declared slot that the operation is worked out for.
+    fn place(self) -> u64 {
+        match self {
+            Around::Declared | Around::Varint => 0,
+            Around::Message | Around::Newtype => AROUND_SLOT,
+        }
+    }
+}
+
+fn edge(all: &mut Vec<Boundary>, operation: &Operation, form: Form, around: Around) {
+    let least = operation.least.filter(|_| form.has_least());
+    let most = operation.most.filter(|_| form.has_most());
+    let greatest = least.into_iter().chain(most).min();
+    let what = format!("{} of {form:?} below {around:?}", operation.what);
+    let mut add_image = |bits, refused| {
+        let schema = Schema {
+            names: vec![0],
+            slots: vec![
+                (operation.make)(form.tree(bits)),
+                around.slot(),
+                form.element(bits),
+                Slot::Newtype {
+                    inner: BOOL,
+                    terminal: Tree::Named(0),
+                },
+            ],
+            declarations: around.declarations(form),
+        };
+        add(all, format!("{what}, {bits} bits"), schema.bytes(), refused);
+    };
+    add_image(greatest.unwrap_or(SIZE_LIMIT), None);
+    if let Some(greatest) = greatest {
+        add_image(greatest - 1, None);
+        add_image(greatest + 1, Some((11, around.place())));
+    }
+}
+
+/// Largest totals beside a field without one: it ends them only from there on.
+fn running_totals(all: &mut Vec<Boundary>) {
+    let large = Tree::Named(1);
+    let open = Tree::Semantic(0);
+    let orders = [
+        ("open field first", [&open, &large, &large], None),
+        ("open field between", [&large, &open, &large], None),
+        ("open field last", [&large, &large, &open], Some((11, 0))),
+    ];
+    for (what, trees, refused) in orders {
+        let trees: Vec<Tree> = trees.into_iter().cloned().collect();
+        let fields = trees.iter().map(|tree| field(0, tree.clone())).collect();
+        for slot in [of(&trees), union(vec![vec![], fields])] {
+            let schema = Schema {
+                names: vec![0],
+                slots: vec![slot, Form::Largest.element(SIZE_LIMIT)],
+                declarations: vec![0],
+            };
+            add(all, what.into(), schema.bytes(), refused);
+        }
+    }
+}

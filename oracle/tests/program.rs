@@ -1,0 +1,74 @@
+//! Running a program on images, and the records of what it has to write.
+
+use std::process::Command;
+
+use oracle::answer::{answer, lines, PROGRAM_PLACES};
+use oracle::compare::Selection;
+use oracle::generate::findings::many_findings;
+use oracle::generate::Families;
+use oracle::program::run;
+use oracle::record::record_lines;
+use oracle::specials::specials;
+
+const SELECTION: Selection = Selection {
+    count: 200,
+    seed: 2,
+    families: Families::All,
+};
+
+fn oracle(command: &str) -> Command {
+    let mut program = Command::new(env!("CARGO_BIN_EXE_oracle"));
+    program.arg(command);
+    program
+}
+
+#[test]
+fn the_oracle_writes_its_own_lines() {
+    let outcome = run(SELECTION, &|| oracle("answer")).expect("it runs");
+    assert_eq!(outcome.wrong, None);
+    let images = outcome.images + outcome.too_long;
+    assert_eq!(images, SELECTION.count + specials().len() as u64);
+}
+
+#[test]
+fn another_output_is_seen() {
+    let outcome = run(SELECTION, &|| oracle("families")).expect("it runs");
+    let wrong = outcome.wrong.expect("it writes something else");
+    assert!(wrong.image.is_empty());
+    assert_eq!(wrong.expected, "vexil-typeck 1\nrefused 2 0\n");
+}
+
+#[test]
+fn findings_are_as_many_as_said() {
+    for kind in 0..3 {
+        let text = |findings| {
+            let image = many_findings(findings, kind).bytes();
+            lines(&answer(&image, PROGRAM_PLACES).expect("a short check"))
+        };
+        assert!(text(1_000).ends_with("\nend 1000\n"), "kind {kind}");
+        assert_eq!(text(1_001), "vexil-typeck 1\nrefused 12 0\n");
+    }
+}
+
+/// Reads records back: length, image, length, lines.
+#[test]
+fn records_hold_images_and_lines() {
+    let mut file = Vec::new();
+    record_lines(SELECTION, &mut file).expect("a Vec takes all");
+    let mut rest = &file[..];
+    let mut part = || -> Option<Vec<u8>> {
+        let (length, after) = rest.split_first_chunk::<4>()?;
+        let (bytes, after) = after.split_at(u32::from_le_bytes(*length) as usize);
+        rest = after;
+        Some(bytes.to_vec())
+    };
+    let mut images = 0;
+    while let Some(image) = part() {
+        let text = part().expect("lines after each image");
+        let expected = lines(&answer(&image, PROGRAM_PLACES).expect("a short check"));
+        assert_eq!(String::from_utf8(text), Ok(expected));
+        images += 1;
+    }
+    assert!(images > 150, "{images}");
+    assert!(file.len() < 600_000, "{}", file.len());
+}
