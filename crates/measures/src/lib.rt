@@ -4,7 +4,7 @@ use sizes::Worked;
 ghost use mathlib.Core.Path.{_≡_};
 ghost use Prim.Native.Nat.{_+_, _*_, _^_, min, max};
 ghost use Rattle.tree.specs.Tree.{Tree, Leaf, Wrap, leafKind, leafNumber, wrapKind};
-ghost use Rattle.sizes.specs.Sizes.{smallest, largest, variable, both, limited, then, limitedSum, limitedProduct, Resolver, leafSize, countOf, wrapSize, primitiveBits, semanticBits, fixedOrOpen, optionalSize, multiplied, withoutLargest, widened, raised, added, unmarked, varintEnd, zigZagEnd};
+ghost use Rattle.sizes.specs.Sizes.{smallest, largest, variable, both, limited, limitedSum, limitedProduct, Resolver, leafSize, countOf, wrapSize, primitiveBits, semanticBits, fixedOrOpen, optionalSize, multiplied, withoutLargest, widened, raised, unmarked, varintEnd, zigZagEnd};
 ghost use Rattle.measures.specs.Cut.{cutSum, highOf};
 ghost use Rattle.measures.specs.Heads.{kindOf, numberOf};
 
@@ -73,7 +73,7 @@ pub fn wire_size_max_bits(size: Size) -> Bound
 }
 
 // A size that is not Fixed.
-fn vary(low: u64, high: Bound) -> Size
+pub fn vary(low: u64, high: Bound) -> Size
     ensures { λ r. ⌜ r ≡ variable low (highOf high) ⌝ }
 {
     match high {
@@ -83,7 +83,7 @@ fn vary(low: u64, high: Bound) -> Size
 }
 
 // The sum of two largest, if both exist.
-fn sum_bounds(a: Bound, b: Bound) -> Bound
+pub fn sum_bounds(a: Bound, b: Bound) -> Bound
     ensures { λ r. ⌜ highOf r ≡ both cutSum (highOf a) (highOf b) ⌝ }
 {
     match a {
@@ -304,38 +304,4 @@ pub fn tag(extremes: Size) -> Worked
     ensures { λ r. ⌜ r ≡ limitedSum (raised 8 (unmarked extremes)) ⌝ }
 {
     raise(8, unmark(extremes))
-}
-
-fn vary_sum(a: Size, b: Size) -> Worked
-    ensures { λ r. ⌜ r ≡ limitedSum (variable (smallest a + smallest b) (both _+_ (largest a) (largest b))) ⌝ }
-{
-    within_limit(vary(
-        sum(wire_size_min_bits(a), wire_size_min_bits(b)),
-        sum_bounds(wire_size_max_bits(a), wire_size_max_bits(b)),
-    ))
-}
-
-// A running total with a field's size.
-pub fn add(total: Size, size: Size) -> Worked
-    ensures { λ r. ⌜ r ≡ limitedSum (added total size) ⌝ }
-{
-    match total {
-        Size::Fixed(x) => match size {
-            Size::Fixed(y) => within_limit(Size::Fixed(sum(x, y))),
-            Size::Bounded(l, h) => vary_sum(total, size),
-            Size::Open(l) => vary_sum(total, size),
-        },
-        Size::Bounded(l, h) => vary_sum(total, size),
-        Size::Open(l) => vary_sum(total, size),
-    }
-}
-
-// The same with a field that was worked out.
-pub fn add_field(total: Size, field: Worked) -> Worked
-    ensures { λ r. ⌜ r ≡ then field (λ s. limitedSum (added total s)) ⌝ }
-{
-    match field {
-        Worked::Sized(size) => add(total, size),
-        Worked::Over => Worked::Over,
-    }
 }

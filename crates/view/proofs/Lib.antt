@@ -1,3 +1,6 @@
 pub mod Fetching
 pub mod Places
+pub mod Viewed
+pub mod Thin
+pub mod Over
 pub mod Onward

@@ -1,4 +1,5 @@
 // Parts of an accepted image, for the layers above: a slot's kind with what it holds, and where its fields and types stand.
+// The functions over the view are thin and proved by hand: the work is done on the two slices.
 use number::Next;
 use number::Ranged;
 use tree::Sort;
@@ -9,6 +10,12 @@ ghost use Rattle.slot.specs.Field.{typeAt, fieldsAt};
 ghost use Rattle.slot.specs.Slot.{Message, messageAt, Union, unionAt, Newtype, newtypeAt};
 ghost use Rattle.view.specs.Part.{partAt};
 
+// An image, with the table of where its slots start.
+pub struct View<'a, 'b> {
+    pub image: &'a [u8],
+    pub starts: &'b [usize],
+}
+
 // A slot's kind, and the position of what the kind holds.
 pub enum Part {
     At(u64, usize),
@@ -16,7 +23,7 @@ pub enum Part {
 }
 
 // The part of slot k, by the table of where the slots start.
-pub fn slot_part(image: &[u8], starts: &[usize], k: usize) -> Part
+fn read_part(image: &[u8], starts: &[usize], k: usize) -> Part
     ensures { λ r. ⌜ r ≡ partAt (now (image .entry)) (now (starts .entry)) k ⌝ }
 {
     if starts.len() <= k {
@@ -26,6 +33,25 @@ pub fn slot_part(image: &[u8], starts: &[usize], k: usize) -> Part
         Ranged::Value(kind, body) => Part::At(kind, body),
         Ranged::Refused(_, q) => Part::Missing,
     }
+}
+
+fn view_of<'a, 'b>(image: &'a [u8], starts: &'b [usize]) -> View<'a, 'b>
+    ensures { λ r. ⌜ (r .image ≡ image .entry) × (r .starts ≡ starts .entry) ⌝ }
+{
+    View { image, starts }
+}
+
+pub fn fetch_part<'a, 'b>(view: View<'a, 'b>, k: usize) -> Part
+    ensures { λ r. ⌜ r ≡ partAt (now (view .entry .image)) (now (view .entry .starts)) k ⌝ }
+{
+    read_part(view.image, view.starts, k)
+}
+
+// For callers that hold the two slices: their proofs need no view.
+pub fn slot_part(image: &[u8], starts: &[usize], k: usize) -> Part
+    ensures { λ r. ⌜ r ≡ partAt (now (image .entry)) (now (starts .entry)) k ⌝ }
+{
+    fetch_part(view_of(image, starts), k)
 }
 
 // Where a cursor stands. The image was accepted before, so that no refusal is met.

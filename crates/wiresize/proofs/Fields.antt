@@ -2,7 +2,7 @@
 use Prim.Native.Nat.{ℕ, zero, suc, _-_, _≤_, _<_}
 use mathlib.Core.Path.{_≡_, refl, sym, ap, subst, _∙_}
 use mathlib.Core.List.{List, [], _∷_}
-use mathlib.Core.Bool.{Bool}
+use mathlib.Core.Bool.{Bool, true, false}
 use native.Mathlib.Omega.{arith}
 use Rattle.number.specs.Grammar.{count, number, Grammar, many, counted, Outcome, done, below, read}
 use Rattle.number.proofs.Reading.{Front, front, read-done, read-number, given, counted-on}
@@ -12,9 +12,13 @@ use Rattle.sizes.specs.declared.Size.{Size}
 use Rattle.sizes.specs.declared.Size.the-variants.{Fixed}
 use Rattle.sizes.specs.declared.Worked.{Worked}
 use Rattle.sizes.specs.declared.Worked.the-variants.{Sized, Over}
-use Rattle.sizes.specs.Sizes.{then, limitedSum, Resolver, fieldSize, added, addFields, fieldsSize}
+use Rattle.sizes.specs.Sizes.{smallest, limit, then, limitedSum, Resolver, fieldSize, added, addFields, fieldsSize}
 use Rattle.sizes.specs.Steps.{then-made}
 use Rattle.sizes.specs.Names.{State}
+use Rattle.total.specs.Totals.{sizeOf, totalOf, Running, withField}
+use Rattle.total.specs.declared.Total.{Total}
+use Rattle.total.specs.declared.Raised.{Raised}
+use Rattle.total.proofs.Totals.{size-back, running, stepped, stopped, sum-small}
 use Rattle.wiresize.specs.Rows.{RowsHold}
 use Rattle.wiresize.specs.Asked.{Walks, resolver}
 use Rattle.wiresize.specs.declared.Walked.{Walked}
@@ -58,19 +62,25 @@ module _ (s : List ℕ) (names : ℕ) (rows : List ℕ) (w : List Bool) (fieldCo
   Whole fs e = read (many fieldCount (fieldAt names)) s first ≡ done fs e
 
   -- the fields from `here` on, onto the running total, come to what all fields come to
-  pub record FieldsLeft (left here : ℕ) (total : Size) : Type 0 where
+  pub record FieldsLeft (left here : ℕ) (total : Total) : Type 0 where
+    pub sum : Size
+    pub stands : total ≡ totalOf sum
+    pub small : smallest sum ≤ limit
     pub fields : List Field
     pub end : ℕ
     pub reads : read (many left (fieldAt names)) s here ≡ done fields end
     pub ends : (fs : List Field) (e : ℕ) → Whole fs e → end ≡ e
     pub totals : (fs : List Field) (e : ℕ) → Whole fs e → (st : State) → RowsHold (schemaOf s) st rows
-        → addFields (resolver s st w) total fields ≡ fieldsSize (resolver s st w) fs
+        → addFields (resolver s st w) sum fields ≡ fieldsSize (resolver s st w) fs
 
-  pub fields-start : (fs : List Field) (e : ℕ) → Whole fs e → FieldsLeft fieldCount first (Fixed 0)
-  fields-start fs e q =
-      record { fields = fs; end = e; reads = q; ends = λ xs d p. same-thing q p .1; totals = λ xs d p st H. ap (fieldsSize (resolver s st w)) (same-thing q p .0) }
+  pub fields-start : (fs : List Field) (e : ℕ) → Whole fs e → {total : Total} → total ≡ totalOf (Fixed 0) → FieldsLeft fieldCount first total
+  fields-start fs e q i =
+      record { sum = Fixed 0; stands = i; small = omega arith; fields = fs; end = e; reads = q; ends = λ xs d p. same-thing q p .1; totals = λ xs d p st H. ap (fieldsSize (resolver s st w)) (same-thing q p .0) }
 
-  module _ {left here : ℕ} {total : Size} (l : FieldsLeft left here total) where
+  module _ {left here : ℕ} {total : Total} (l : FieldsLeft left here total) where
+    pub total-runs : Running total
+    total-runs = running (l .sum) (l .stands) (l .small)
+
     pub next-field : 0 < left → Front (fieldAt names) s (left - 1) here (l .fields) (l .end)
     next-field h = first-of (fieldAt names) s left here h (l .fields) (l .end) (l .reads)
 
@@ -78,39 +88,44 @@ module _ (s : List ℕ) (names : ℕ) (rows : List ℕ) (w : List Bool) (fieldCo
       worked-as : (st : State) → RowsHold (schemaOf s) st rows → r .worked ≡ fieldSize (resolver s st w) (next-field h .first)
       worked-as st H = walks .works .worked _ _ (next-field h .here) st H
 
-      module _ {r′ : Worked} (adds : r′ ≡ then (r .worked) (λ z. limitedSum (added total z))) where
-        onward : (st : State) → RowsHold (schemaOf s) st rows
-            → addFields (resolver s st w) total (l .fields) ≡ then r′ (λ sum. addFields (resolver s st w) sum (next-field h .others))
-        onward st H =
+      module _ {r′ : Raised} (adds : r′ ≡ withField total (r .worked)) where
+        onward : {w′ : Worked} → then (r .worked) (λ z. limitedSum (added (l .sum) z)) ≡ w′ → (st : State) → RowsHold (schemaOf s) st rows
+            → addFields (resolver s st w) (l .sum) (l .fields) ≡ then w′ (λ y. addFields (resolver s st w) y (next-field h .others))
+        onward e st H =
             let f = next-field h in
-            ap (addFields (resolver s st w) total) (f .whole) ∙ total-on _ total (f .first) (f .others) (worked-as st H) adds
+            ap (addFields (resolver s st w) (l .sum)) (f .whole) ∙ total-on _ (l .sum) (f .first) (f .others) (worked-as st H) (sym e)
 
-        pub field-turn : {sum : Size} → r′ ≡ Sized sum → FieldsLeft (left - 1) (r .next) sum
+        pub field-turn : r′ .ok ≡ true → FieldsLeft (left - 1) (r .next) (r′ .total)
         unfolding then
-        field-turn e =
+        field-turn o =
             let f = next-field h in
-            let m = then-made (r .worked) _ _ (sym adds ∙ e) in
+            let a = stepped (l .sum) (l .stands) (r .worked) adds o in
+            let m = then-made (r .worked) _ _ (a .1) in
             let n = walks .next _ _ (f .here) (m .part) (m .given) in
             record {
+              sum = a .0;
+              stands = a .2;
+              small = sum-small (l .sum) (l .stands) (r .worked) adds (a .0) (a .1);
               fields = f .others;
               end = l .end;
               reads = subst (λ (p : ℕ). read (many (left - 1) (fieldAt names)) s p ≡ done (f .others) (l .end)) (sym n) (f .rest);
               ends = l .ends;
-              totals = λ fs d q st H. sym (onward st H ∙ rw e) ∙ l .totals fs d q st H;
+              totals = λ fs d q st H. sym (onward (a .1) st H) ∙ l .totals fs d q st H;
             }
 
-        pub field-over : r′ ≡ Over → (fs : List Field) (e : ℕ) → Whole fs e → (st : State) → RowsHold (schemaOf s) st rows
+        pub field-over : r′ .ok ≡ false → (fs : List Field) (e : ℕ) → Whole fs e → (st : State) → RowsHold (schemaOf s) st rows
             → Over ≡ fieldsSize (resolver s st w) fs
         unfolding then
-        field-over o fs e q st H = sym (onward st H ∙ rw o) ∙ l .totals fs e q st H
+        field-over o fs e q st H = sym (onward (stopped (l .sum) (l .stands) (r .worked) adds o) st H) ∙ l .totals fs e q st H
 
     module _ (h : left ≤ 0) (fs : List Field) (e : ℕ) (q : Whole fs e) where
       pub fields-end : here ≡ e
       fields-end = none-left (fieldAt names) s left here h (l .fields) (l .end) (l .reads) .1 ∙ l .ends fs e q
 
-      pub fields-sum : (st : State) → RowsHold (schemaOf s) st rows → Sized total ≡ fieldsSize (resolver s st w) fs
-      fields-sum st H =
-          sym (total-done (resolver s st w) total (none-left (fieldAt names) s left here h (l .fields) (l .end) (l .reads) .0)) ∙ l .totals fs e q st H
+      pub fields-sum : {z : Size} → z ≡ sizeOf total → (st : State) → RowsHold (schemaOf s) st rows → Sized z ≡ fieldsSize (resolver s st w) fs
+      fields-sum c st H =
+          ap Sized (c ∙ ap sizeOf (l .stands) ∙ size-back (l .sum))
+          ∙ sym (total-done (resolver s st w) (l .sum) (none-left (fieldAt names) s left here h (l .fields) (l .end) (l .reads) .0)) ∙ l .totals fs e q st H
 
 -- the fields behind their count
 pub fields-behind : (s : List ℕ) (names at : ℕ) {count first : ℕ} → below 65537 s at ≡ done count first → {fs : List Field} {e : ℕ}

@@ -18,7 +18,7 @@ use Rattle.sizes.specs.declared.Worked.the-variants.{Sized, Over}
 use Rattle.sizes.specs.Sizes.{then, limitedSum, limitedProduct, multiplied, withoutLargest, Resolver, leafSize, countOf, wrapSize, typeSize, raised, widened, varintEnd, zigZagEnd, encodedSize}
 use Rattle.measures.proofs.ByKind.{wrap-at}
 use Rattle.wiresize.proofs.Heads.{type-parts}
-use Rattle.wiresize.specs.Steps.{Headed, HasParts, Decides, codedAs}
+use Rattle.wiresize.specs.Steps.{Headed, HasParts, LeafTo, Decides, codedAs}
 use Rattle.wiresize.specs.declared.Decided.{Decided}
 use Rattle.wiresize.specs.declared.Coded.{Coded}
 
@@ -87,17 +87,33 @@ module _ (R : Resolver) {t : Tree} where
 
 -- ## Heads
 
-pub decided : {head : Head} (z : Size) → ((names : Resolver) (t : Tree) → Headed head t → Sized z ≡ typeSize names t) → Decides head (Decided.Is z)
-decided {head} z h = record { sized = λ y e names t p. subst (λ (x : Size). Sized x ≡ typeSize names t) (is-inj e) (h names t p); parts = λ e. is-not e }
+pub decided-leaf : {head : Head} (z : Size) (n : ℕ) → LeafTo head n → ((names : Resolver) (t : Tree) → Headed head t → Sized z ≡ typeSize names t) → Decides head (Decided.Leaf z n)
+decided-leaf {head} z n l h =
+    record {
+      leaf = λ y m e. (subst (LeafTo head) (at-inj e) l, λ names t p. subst (λ (x : Size). Sized x ≡ typeSize names t) (size-inj e) (h names t p));
+      sized = λ y e names t p. let q : _≡_ {A = ℕ} 0 1 = cc in absurd (omega arith);
+      parts = λ e. let q : _≡_ {A = ℕ} 0 1 = cc in absurd (omega arith);
+    }
   where
-    is-inj : {y : Size} → Decided.Is z ≡ Decided.Is y → z ≡ y
-    is-inj e = cc
+    size-inj : {y : Size} {m : ℕ} → Decided.Leaf z n ≡ Decided.Leaf y m → z ≡ y
+    size-inj e = cc
 
-    is-not : {A : Type 0} → Decided.Is z ≡ Decided.Parts → A
-    is-not e = let q : _≡_ {A = ℕ} 0 1 = cc in absurd (omega arith)
+    at-inj : {y : Size} {m : ℕ} → Decided.Leaf z n ≡ Decided.Leaf y m → n ≡ m
+    at-inj e = cc
+
+pub decided : {head : Head} (z : Size) → ((names : Resolver) (t : Tree) → Headed head t → Sized z ≡ typeSize names t) → Decides head (Decided.Pass z)
+decided {head} z h =
+    record {
+      leaf = λ y m e. let q : _≡_ {A = ℕ} 0 1 = cc in absurd (omega arith);
+      sized = λ y e names t p. subst (λ (x : Size). Sized x ≡ typeSize names t) (pass-inj e) (h names t p);
+      parts = λ e. let q : _≡_ {A = ℕ} 0 1 = cc in absurd (omega arith);
+    }
+  where
+    pass-inj : {y : Size} → Decided.Pass z ≡ Decided.Pass y → z ≡ y
+    pass-inj e = cc
 
 pub has-parts : {head : Head} → HasParts head → Decides head Decided.Parts
-has-parts h = record { sized = λ z e names t p. let q : _≡_ {A = ℕ} 0 1 = cc in absurd (omega arith); parts = λ e. h }
+has-parts h = record { leaf = λ y m e. let q : _≡_ {A = ℕ} 0 1 = cc in absurd (omega arith); sized = λ z e names t p. let q : _≡_ {A = ℕ} 0 1 = cc in absurd (omega arith); parts = λ e. h }
 
 pub parts-at : {x y : Head} → HasParts x → x ≡ y → HasParts y
 parts-at h e = subst HasParts e h
@@ -117,6 +133,19 @@ headed child s (Head.Refused r p) t end z = z
 pub type-headed : (names : ℕ) (s : List ℕ) (at : ℕ) (x : Head) → x ≡ shape (read (headAt Resolved names) s at) → (t : Tree) (end : ℕ) → read (typeAt names) s at ≡ done t end
     → Headed x t
 type-headed names s at x e t end q = headed (typeAt names) s x t end (type-parts names s at x (sym e) t end q)
+
+-- and where it has no parts, it ends with it
+pub leaf-end : (names : ℕ) (s : List ℕ) (at : ℕ) (x : Head) → x ≡ shape (read (headAt Resolved names) s at) → (n : ℕ) → LeafTo x n → (t : Tree) (end : ℕ)
+    → read (typeAt names) s at ≡ done t end → n ≡ end
+leaf-end names s at x e n l t end q = go x l (type-parts names s at x (sym e) t end q)
+  where
+    go : (y : Head) → LeafTo y n → Parts (typeAt names) s y t end → n ≡ end
+    go (Head.Leaf k g v m) f p = sym f ∙ p .5
+    go (Head.One k m) f p = absurd f
+    go (Head.Two k m) f p = absurd f
+    go (Head.Sized m) f p = absurd f
+    go (Head.Generic v m) f p = absurd f
+    go (Head.Refused r m) f p = absurd f
 
 -- ## Encodings
 

@@ -14,6 +14,8 @@ use Rattle.sizes.specs.declared.Worked.{Worked}
 use Rattle.sizes.specs.declared.Worked.the-variants.{Sized, Over}
 use Rattle.sizes.specs.Sizes.{then, limitedSum, Resolver, fieldsSize, mark, addVariants, unionSize, widened, raised, unmarked}
 use Rattle.sizes.specs.Names.{State}
+use Rattle.total.specs.Totals.{sizeOf, totalOf}
+use Rattle.total.specs.declared.Total.{Total}
 use Rattle.wiresize.specs.Rows.{RowsHold}
 use Rattle.wiresize.specs.Asked.{resolver}
 use Rattle.wiresize.specs.Steps.{variantsAt}
@@ -69,12 +71,12 @@ module _ (s : List ℕ) (names : ℕ) (rows : List ℕ) (w : List Bool) (count f
         pub variant-fields : read (many fields (fieldAt names)) s after ≡ done (next-variant .first) (next-variant .middle)
         variant-fields = fields-behind s names here b (next-variant .here)
 
-        pub variant-start : FieldsLeft s names rows w fields after fields after (Size.Fixed 0)
-        variant-start = fields-start s names rows w fields after _ _ variant-fields
+        pub variant-start : {total : Total} → total ≡ totalOf (Size.Fixed 0) → FieldsLeft s names rows w fields after fields after total
+        variant-start i = fields-start s names rows w fields after _ _ variant-fields i
 
-        pub variant-turn : {more at : ℕ} {total wider : Size} → FieldsLeft s names rows w fields after more at total → more ≤ 0
-            → wider ≡ widened extremes total → VariantsLeft (left - 1) at wider
-        variant-turn i m d =
+        pub variant-turn : {more at : ℕ} {total : Total} {z wider : Size} → FieldsLeft s names rows w fields after more at total → more ≤ 0
+            → z ≡ sizeOf total → wider ≡ widened extremes z → VariantsLeft (left - 1) at wider
+        variant-turn i m c d =
             let f = next-variant in
             let n = fields-end s names rows w fields after i m _ _ variant-fields in
             record {
@@ -84,7 +86,7 @@ module _ (s : List ℕ) (names : ℕ) (rows : List ℕ) (w : List Bool) (count f
               widens = λ vs e q st H.
                   ap (λ (x : Size). addVariants (resolver s st w) x (f .others)) d
                   ∙ sym (ap (addVariants (resolver s st w) extremes) (f .whole)
-                  ∙ extremes-on _ extremes (f .first) (f .others) (fields-sum s names rows w fields after i m _ _ variant-fields st H))
+                  ∙ extremes-on _ extremes (f .first) (f .others) (fields-sum s names rows w fields after i m _ _ variant-fields c st H))
                   ∙ l .widens vs e q st H;
             }
 

@@ -55,9 +55,19 @@ HasParts (Head.Sized n) = Unit {0}
 HasParts (Head.Generic v n) = ⊥
 HasParts (Head.Refused r p) = ⊥
 
+-- the head of a type without parts, and the position after it
+abbrev pub LeafTo : Head → ℕ → Type 0
+LeafTo (Head.Leaf k g v m) n = m ≡ n
+LeafTo (Head.One k m) n = ⊥
+LeafTo (Head.Two k m) n = ⊥
+LeafTo (Head.Sized m) n = ⊥
+LeafTo (Head.Generic v m) n = ⊥
+LeafTo (Head.Refused r p) n = ⊥
+
 -- the size of all types with this head, whatever names come to, or that they have parts
 pub record Decides (head : Head) (r : Decided) : Type 0 where
-  pub sized : (z : Size) → r ≡ Decided.Is z → (names : Resolver) (t : Tree) → Headed head t → Sized z ≡ typeSize names t
+  pub leaf : (z : Size) (n : ℕ) → r ≡ Decided.Leaf z n → LeafTo head n × ((names : Resolver) (t : Tree) → Headed head t → Sized z ≡ typeSize names t)
+  pub sized : (z : Size) → r ≡ Decided.Pass z → (names : Resolver) (t : Tree) → Headed head t → Sized z ≡ typeSize names t
   pub parts : r ≡ Decided.Parts → HasParts head
 
 -- a type that was passed over, with a size that its head decides

@@ -12,6 +12,7 @@ ghost use Prim.Native.Nat.{ℕ, _+_, _*_, _<_, _≤_};
 ghost use lib.ListN.{length};
 ghost use Rattle.number.specs.Grammar.{done, read};
 ghost use Rattle.tree.specs.Encoding.{Encoding, encodingAt};
+ghost use Rattle.tree.specs.TreeAt.{headAt, shape};
 ghost use Rattle.slot.specs.Field.{typeAt, fieldAt, fieldsAt, Field};
 ghost use Rattle.reader.specs.Promise.{Promise};
 ghost use Rattle.sizes.specs.Sizes.{typeSize, fieldSize, fieldsSize, unionSize, varintEnd, zigZagEnd};
@@ -38,9 +39,10 @@ pub struct Kinded {
     pub number: u64,
 }
 
-// What the head of a type decides: its size, or that its parts are to be worked out.
+// What the head of a type decides: its size, with the position after it where it has no parts, or that its parts are to be worked out.
 pub enum Decided {
-    Is(Size),
+    Leaf(Size, usize),
+    Pass(Size),
     Parts,
 }
 
@@ -73,6 +75,20 @@ fn pass_type(image: &[u8], at: usize, names: u64, size: Size) -> Walked
     }
 }
 
+// The same behind its head: a type without parts ends there.
+fn pass_headed(image: &[u8], at: usize, names: u64, head: Head, size: Size) -> Walked
+    requires { ⌜ head ≡ shape (read (headAt Sort.Resolved names) (now image) at) ⌝ }
+    ensures { λ r. ⌜ Passed names (now (image .entry)) at (λ t. Worked.Sized size) r ⌝ }
+{
+    if let Head::Leaf(_, _, _, next) = head {
+        return Walked {
+            worked: Worked::Sized(size),
+            next,
+        };
+    }
+    pass_type(image, at, names, size)
+}
+
 fn kind_and_number(head: Head) -> Kinded
     ensures { λ r. ⌜ (r .kind ≡ kindIn head) × (r .number ≡ numberIn head) ⌝ }
 {
@@ -95,17 +111,19 @@ fn kind_and_number(head: Head) -> Kinded
 fn varint_type(image: &[u8], at: usize, names: u64) -> Walked
     ensures { λ r. ⌜ Passed names (now (image .entry)) at (λ t. Worked.Sized (Size.Bounded 8 (varintEnd t))) r ⌝ }
 {
-    let head = kind_and_number(tree::read_head(image, at, Sort::Resolved, names));
-    let size = measures::varint_wire_size(head.kind, head.number);
-    pass_type(image, at, names, size)
+    let head = tree::read_head(image, at, Sort::Resolved, names);
+    let kinded = kind_and_number(head);
+    let size = measures::varint_wire_size(kinded.kind, kinded.number);
+    pass_headed(image, at, names, head, size)
 }
 
 fn zigzag_type(image: &[u8], at: usize, names: u64) -> Walked
     ensures { λ r. ⌜ Passed names (now (image .entry)) at (λ t. Worked.Sized (Size.Bounded 8 (zigZagEnd t))) r ⌝ }
 {
-    let head = kind_and_number(tree::read_head(image, at, Sort::Resolved, names));
-    let size = measures::zigzag_wire_size(head.kind, head.number);
-    pass_type(image, at, names, size)
+    let head = tree::read_head(image, at, Sort::Resolved, names);
+    let kinded = kind_and_number(head);
+    let size = measures::zigzag_wire_size(kinded.kind, kinded.number);
+    pass_headed(image, at, names, head, size)
 }
 
 // Delta counts as its inner encoding.
@@ -219,26 +237,26 @@ fn head_wire_size(head: Head) -> Decided
     ensures { λ r. ⌜ Decides head r ⌝ }
 {
     match head {
-        Head::Leaf(kind, _, number, _) => {
+        Head::Leaf(kind, _, number, next) => {
             if kind == 3 {
                 return Decided::Parts;
             }
-            Decided::Is(measures::leaf_wire_size(kind, number))
+            Decided::Leaf(measures::leaf_wire_size(kind, number), next)
         }
         Head::One(kind, _) => match kind {
-            5 => Decided::Is(Size::Open(8)),
-            7 => Decided::Is(Size::Open(8)),
+            5 => Decided::Pass(Size::Open(8)),
+            7 => Decided::Pass(Size::Open(8)),
             _ => Decided::Parts,
         },
         Head::Two(kind, _) => {
             if kind == 8 {
-                return Decided::Is(Size::Open(8));
+                return Decided::Pass(Size::Open(8));
             }
             Decided::Parts
         }
         Head::Sized(_) => Decided::Parts,
-        Head::Generic(_, _) => Decided::Is(Size::Open(0)),
-        Head::Refused(_, _) => Decided::Is(Size::Open(0)),
+        Head::Generic(_, _) => Decided::Pass(Size::Open(0)),
+        Head::Refused(_, _) => Decided::Pass(Size::Open(0)),
     }
 }
 
@@ -256,8 +274,15 @@ fn compute_resolved_type_wire_size(
 {
     let names = frame.names;
     let head = tree::read_head(image, at, Sort::Resolved, names);
-    if let Decided::Is(size) = head_wire_size(head) {
-        return pass_type(image, at, names, size);
+    match head_wire_size(head) {
+        Decided::Leaf(size, next) => {
+            return Walked {
+                worked: Worked::Sized(size),
+                next,
+            };
+        }
+        Decided::Pass(size) => return pass_type(image, at, names, size),
+        Decided::Parts => {}
     }
     match head {
         Head::Leaf(_, _, id, next) => {
@@ -282,8 +307,14 @@ fn compute_resolved_type_wire_size(
             let item = compute_resolved_type_wire_size(image, starts, frame, rows, body, working);
             repeat_element(image, item)
         }
-        Head::Generic(_, place) => pass_type(image, place, names, Size::Open(0)),
-        Head::Refused(_, place) => pass_type(image, place, names, Size::Open(0)),
+        Head::Generic(_, place) => Walked {
+            worked: Worked::Over,
+            next: place,
+        },
+        Head::Refused(_, place) => Walked {
+            worked: Worked::Over,
+            next: place,
+        },
     }
 }
 
@@ -370,22 +401,22 @@ fn compute_message_wire_size(
     let Ranged::Value(count, first) = number::read_below(image, at, 65537) else {
         return Worked::Over;
     };
-    let mut total = Size::Fixed(0);
+    let mut total = total::empty_total();
     let mut here = first;
     let mut left = count;
     while 0 < left {
         let field = compute_type_wire_size(image, starts, frame, rows, here, working);
         let worked = field.worked;
-        match measures::add_field(total, worked) {
-            Worked::Sized(sum) => {
-                total = sum;
-                here = field.next;
-            }
-            Worked::Over => return Worked::Over,
+        let raised = total::with_field(total, worked);
+        if !raised.ok {
+            return Worked::Over;
         }
+        let sum = raised.total;
+        total = sum;
+        here = field.next;
         left -= 1;
     }
-    Worked::Sized(total)
+    Worked::Sized(total::total_size(total))
 }
 
 // A union, from the count of its variants on. The first total above the limit ends variants and fields together.
@@ -412,24 +443,22 @@ fn compute_union_wire_size(
             return Worked::Over;
         };
         here = after;
-        let mut total = Size::Fixed(0);
+        let mut total = total::empty_total();
         let mut more = fields;
         while 0 < more {
             let field = compute_type_wire_size(image, starts, frame, rows, here, working);
             let worked = field.worked;
-            match measures::add_field(total, worked) {
-                Worked::Sized(sum) => {
-                    total = sum;
-                    here = field.next;
-                }
-                Worked::Over => {
-                    over = true;
-                    break 'variants;
-                }
+            let raised = total::with_field(total, worked);
+            if !raised.ok {
+                over = true;
+                break 'variants;
             }
+            let sum = raised.total;
+            total = sum;
+            here = field.next;
             more -= 1;
         }
-        extremes = measures::widen(extremes, total);
+        extremes = measures::widen(extremes, total::total_size(total));
         left -= 1;
     }
     if over {

@@ -1,5 +1,5 @@
 use mathlib.Core.Path.{refl}
-use Rattle.wiresize.proofs.Typing.{decided, has-parts, decided-at, leaf-sized, run-sized, set-sized, map-sized, generic-sized, pair-map}
+use Rattle.wiresize.proofs.Typing.{decided, decided-leaf, has-parts, decided-at, leaf-sized, run-sized, set-sized, map-sized, generic-sized, pair-map}
 use borrow.Author.Needs.{needs}
 use Rattle.wiresize.proofs.head_wire_size.Statement.{statement}
 use Rattle.wiresize.proofs.head_wire_size.Tie as tie
@@ -17,7 +17,7 @@ head-wire-size-spec =
     (λ c. search needs)
     (λ c. search needs)
     (λ c. search needs)
-    (λ c. decided-at (c .before .before .before .head .given .1) (decided _ (λ names t p. leaf-sized names (p .1) (c .leaf-wire-size .ensures names _ (p .2) (p .3) (c .before .if1 .left)))))
+    (λ c. decided-at (c .before .before .before .head .given .1) (decided-leaf _ _ refl (λ names t p. leaf-sized names (p .1) (c .leaf-wire-size .ensures names _ (p .2) (p .3) (c .before .if1 .left)))))
     (λ c. decided-at (c .before .before .head2 .given .1) (decided _ (λ names t p. run-sized names _ (p .2) (p .3) (c .match2 .keys1) refl)))
     (λ c. decided-at (c .before .before .head2 .given .1) (decided _ (λ names t p. set-sized names _ (p .2) (p .3) (c .match2 .keys2) refl)))
     (λ c. decided-at (c .before .before .head2 .given .1) (has-parts (c .match2 .rest .0 .1, c .match2 .rest .1)))

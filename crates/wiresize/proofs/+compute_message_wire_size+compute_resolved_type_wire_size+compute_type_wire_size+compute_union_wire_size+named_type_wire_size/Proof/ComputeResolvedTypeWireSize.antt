@@ -18,7 +18,7 @@ use Rattle.wiresize.proofs.Ended.{not-over}
 use Rattle.wiresize.proofs.Heads.{type-parts}
 use Rattle.view.proofs.Onward.{goes-on}
 use Rattle.wiresize.proofs.Onward.{behind-head}
-use Rattle.wiresize.proofs.Typing.{below-at, leaf-named, pair-result, name-sized, wrap-sized, result-sized, result-over, array-sized, parts-at, type-headed}
+use Rattle.wiresize.proofs.Typing.{below-at, leaf-end, leaf-named, pair-result, name-sized, wrap-sized, result-sized, result-over, array-sized, parts-at, type-headed}
 use Rattle.wiresize.proofs.Measure.{name-in-type, child-in-wrap, element-in-array, ok-in-result, err-in-result}
 
 module _ (t : ℕ) where
@@ -34,21 +34,30 @@ module _ (t : ℕ) where
   enum-known-size : compute-resolved-type-wire-size-lts.Need-enum-known-size env (compute-resolved-type-wire-size-at t) compute-resolved-type-wire-size.Post
   enum-known-size c = search needs
 
+  returns : compute-resolved-type-wire-size-lts.Need-returns env (compute-resolved-type-wire-size-at t) compute-resolved-type-wire-size.Post
+  returns c =
+      record {
+        next = λ t end q z e. leaf-end _ _ _ (c .before .before .before .before .read-head .result) (c .before .before .before .before .read-head .ensures) _ (c .before .before .before .head-wire-size .ensures .leaf _ _ (c .before .size .given .1) .0) t end q;
+        works = record { worked = λ t end q st H. c .before .before .before .head-wire-size .ensures .leaf _ _ (c .before .size .given .1) .1 _ t (type-headed _ _ _ (c .before .before .before .before .read-head .result) (c .before .before .before .before .read-head .ensures) t end q) };
+      }
+
+  enum-known-size-2 : compute-resolved-type-wire-size-lts.Need-enum-known-size-2 env (compute-resolved-type-wire-size-at t) compute-resolved-type-wire-size.Post
+  enum-known-size-2 c = search needs
+
   pass-type-requires : compute-resolved-type-wire-size-lts.Need-pass-type-requires env (compute-resolved-type-wire-size-at t) compute-resolved-type-wire-size.Post
   pass-type-requires c κs = search needs
 
-  returns : compute-resolved-type-wire-size-lts.Need-returns env (compute-resolved-type-wire-size-at t) compute-resolved-type-wire-size.Post
-  returns c =
+  returns-2 : compute-resolved-type-wire-size-lts.Need-returns-2 env (compute-resolved-type-wire-size-at t) compute-resolved-type-wire-size.Post
+  returns-2 c =
       record {
         next = λ t end q z e. c .pass-type .ensures .passed t end q .1;
         works = record {
           worked = λ t end q st H.
               c .pass-type .ensures .passed t end q .0
-              ∙ c .before .before .before .before .head-wire-size .ensures .sized _ (c .before .before .size .given .1) _ t (type-headed _ _ _ (c .before .before .before .before .before .read-head .result) (c .before .before .before .before .before .read-head .ensures) t end q);
+              ∙ c .before .before .before .before .head-wire-size .ensures .sized _ (c .before .before .size2 .given .1) _ t (type-headed _ _ _ (c .before .before .before .before .before .read-head .result) (c .before .before .before .before .before .read-head .ensures) t end q);
         };
       }
 
-  --
   enum-told : compute-resolved-type-wire-size-lts.Need-enum-told env (compute-resolved-type-wire-size-at t) compute-resolved-type-wire-size.Post
   enum-told c = search needs
 
@@ -92,8 +101,8 @@ module _ (t : ℕ) where
   enum-told-2 : compute-resolved-type-wire-size-lts.Need-enum-told-2 env (compute-resolved-type-wire-size-at t) compute-resolved-type-wire-size.Post
   enum-told-2 c = search needs
 
-  returns-2 : compute-resolved-type-wire-size-lts.Need-returns-2 env (compute-resolved-type-wire-size-at t) compute-resolved-type-wire-size.Post
-  returns-2 c =
+  returns-3 : compute-resolved-type-wire-size-lts.Need-returns-3 env (compute-resolved-type-wire-size-at t) compute-resolved-type-wire-size.Post
+  returns-3 c =
       record {
         next = λ t end q z e. absurd (not-over (c .enum-told2 .given .1) e);
         works = record {
@@ -134,24 +143,18 @@ module _ (t : ℕ) where
   enum-known-head-5 : compute-resolved-type-wire-size-lts.Need-enum-known-head-5 env (compute-resolved-type-wire-size-at t) compute-resolved-type-wire-size.Post
   enum-known-head-5 c = search needs
 
-  pass-type-requires-2 : compute-resolved-type-wire-size-lts.Need-pass-type-requires-2 env (compute-resolved-type-wire-size-at t) compute-resolved-type-wire-size.Post
-  pass-type-requires-2 c κs = search needs
-
   enum-known-head-6 : compute-resolved-type-wire-size-lts.Need-enum-known-head-6 env (compute-resolved-type-wire-size-at t) compute-resolved-type-wire-size.Post
   enum-known-head-6 c = search needs
 
-  pass-type-requires-3 : compute-resolved-type-wire-size-lts.Need-pass-type-requires-3 env (compute-resolved-type-wire-size-at t) compute-resolved-type-wire-size.Post
-  pass-type-requires-3 c κs = search needs
-
-  returns-3 : compute-resolved-type-wire-size-lts.Need-returns-3 env (compute-resolved-type-wire-size-at t) compute-resolved-type-wire-size.Post
-  returns-3 c =
+  returns-4 : compute-resolved-type-wire-size-lts.Need-returns-4 env (compute-resolved-type-wire-size-at t) compute-resolved-type-wire-size.Post
+  returns-4 c =
       record {
         next = λ t end q z e. type-parts _ _ _ _ (sym (c .before .before .before .before .before .before .before .read-head .ensures) ∙ c .before .before .head .given .1) t end q .5;
         works = record { worked = λ t end q st H. let p = type-parts _ _ _ _ (sym (c .before .before .before .before .before .before .before .read-head .ensures) ∙ c .before .before .head .given .1) t end q in name-sized _ (p .1 ∙ ap leaf (leaf-named _ (p .2) (parts-at (c .before .before .before .before .before .before .head-wire-size .ensures .parts (c .before .before .before .before .enum-told .given .1)) (c .before .before .head .given .1)) (p .4))) (c .named-type-wire-size .ensures .worked st H) };
       }
 
-  returns-4 : compute-resolved-type-wire-size-lts.Need-returns-4 env (compute-resolved-type-wire-size-at t) compute-resolved-type-wire-size.Post
-  returns-4 c =
+  returns-5 : compute-resolved-type-wire-size-lts.Need-returns-5 env (compute-resolved-type-wire-size-at t) compute-resolved-type-wire-size.Post
+  returns-5 c =
       record {
         next = λ t end q z e.
             let p = type-parts _ _ _ _ (sym (c .before .before .before .before .before .before .before .before .read-head .ensures) ∙ c .before .before .before .head2 .given .1) t end q in
@@ -167,8 +170,8 @@ module _ (t : ℕ) where
         };
       }
 
-  returns-5 : compute-resolved-type-wire-size-lts.Need-returns-5 env (compute-resolved-type-wire-size-at t) compute-resolved-type-wire-size.Post
-  returns-5 c =
+  returns-6 : compute-resolved-type-wire-size-lts.Need-returns-6 env (compute-resolved-type-wire-size-at t) compute-resolved-type-wire-size.Post
+  returns-6 c =
       record {
         next = λ t end q z e.
             let p = type-parts _ _ _ _ (sym (c .before .before .before .before .before .before .before .before .before .before .before .before .read-head .ensures) ∙ c .before .before .before .before .before .before .before .head3 .given .1) t end q in
@@ -186,8 +189,8 @@ module _ (t : ℕ) where
         };
       }
 
-  returns-6 : compute-resolved-type-wire-size-lts.Need-returns-6 env (compute-resolved-type-wire-size-at t) compute-resolved-type-wire-size.Post
-  returns-6 c =
+  returns-7 : compute-resolved-type-wire-size-lts.Need-returns-7 env (compute-resolved-type-wire-size-at t) compute-resolved-type-wire-size.Post
+  returns-7 c =
       record {
         next = λ t end q z e.
             let p = type-parts _ _ _ _ (sym (c .before .before .before .before .before .before .before .before .read-head .ensures) ∙ c .before .before .before .head4 .given .1) t end q in
@@ -202,11 +205,11 @@ module _ (t : ℕ) where
         };
       }
 
-  returns-7 : compute-resolved-type-wire-size-lts.Need-returns-7 env (compute-resolved-type-wire-size-at t) compute-resolved-type-wire-size.Post
-  returns-7 c = absurd (parts-at (c .before .before .before .before .before .before .head-wire-size .ensures .parts (c .before .before .before .before .enum-told .given .1)) (c .before .before .head5 .given .1))
-
   returns-8 : compute-resolved-type-wire-size-lts.Need-returns-8 env (compute-resolved-type-wire-size-at t) compute-resolved-type-wire-size.Post
-  returns-8 c = absurd (parts-at (c .before .before .before .before .before .before .head-wire-size .ensures .parts (c .before .before .before .before .enum-told .given .1)) (c .before .before .head6 .given .1))
+  returns-8 c = absurd (parts-at (c .before .before .before .before .before .head-wire-size .ensures .parts (c .before .before .before .enum-told .given .1)) (c .before .head5 .given .1))
+
+  returns-9 : compute-resolved-type-wire-size-lts.Need-returns-9 env (compute-resolved-type-wire-size-at t) compute-resolved-type-wire-size.Post
+  returns-9 c = absurd (parts-at (c .before .before .before .before .before .head-wire-size .ensures .parts (c .before .before .before .enum-told .given .1)) (c .before .head6 .given .1))
 
   pub spec : {M : Type 1} → compute-resolved-type-wire-size-lts.Closed env (compute-resolved-type-wire-size-at t) compute-resolved-type-wire-size.Post M
-  spec = compute-resolved-type-wire-size-lts.spec env (compute-resolved-type-wire-size-at t) compute-resolved-type-wire-size.Post read-head-requires head-wire-size-requires enum-known-size pass-type-requires returns enum-told enum-known-head named-type-wire-size-requires enum-known-head-2 compute-resolved-type-wire-size-requires wrap-child-requires enum-known-head-3 compute-resolved-type-wire-size-requires-2 enum-known-worked enum-told-2 returns-2 compute-resolved-type-wire-size-requires-3 join-sides-requires enum-known-head-4 compute-resolved-type-wire-size-requires-4 repeat-element-requires enum-known-head-5 pass-type-requires-2 enum-known-head-6 pass-type-requires-3 returns-3 returns-4 returns-5 returns-6 returns-7 returns-8
+  spec = compute-resolved-type-wire-size-lts.spec env (compute-resolved-type-wire-size-at t) compute-resolved-type-wire-size.Post read-head-requires head-wire-size-requires enum-known-size returns enum-known-size-2 pass-type-requires returns-2 enum-told enum-known-head named-type-wire-size-requires enum-known-head-2 compute-resolved-type-wire-size-requires wrap-child-requires enum-known-head-3 compute-resolved-type-wire-size-requires-2 enum-known-worked enum-told-2 returns-3 compute-resolved-type-wire-size-requires-3 join-sides-requires enum-known-head-4 compute-resolved-type-wire-size-requires-4 repeat-element-requires enum-known-head-5 enum-known-head-6 returns-4 returns-5 returns-6 returns-7 returns-8 returns-9

@@ -3,7 +3,10 @@ use native.Mathlib.Omega.{arith}
 use Prim.Native.Nat.{ℕ}
 use Rattle.wiresize.proofs.compute_union_wire_size.Reads as compute-union-wire-size
 use Rattle.wiresize.proofs.+compute_message_wire_size+compute_resolved_type_wire_size+compute_type_wire_size+compute_union_wire_size+named_type_wire_size.Lts-compute_union_wire_size as compute-union-wire-size-lts
-use Rattle.measures.proofs.add_field.Reads as add-field-reads
+use Rattle.total.proofs.empty_total.Reads as empty-total-reads
+use Rattle.total.proofs.with_field.Reads as with-field-reads
+use Rattle.total.proofs.total_size.Reads as total-size-reads
+use borrow.Author.Tests.{not-true, not-false}
 use Rattle.measures.proofs.tag.Reads as tag-reads
 use Rattle.measures.proofs.widen.Reads as widen-reads
 use Rattle.number.proofs.read_below.Reads as read-below-reads
@@ -14,7 +17,7 @@ use mathlib.Core.Bool.{false}
 use mathlib.Core.Logic.{⊎-elim}
 use Rattle.number.proofs.Reading.{told}
 use Rattle.wiresize.proofs.Ended.{not-refused}
-use Rattle.wiresize.proofs.Fields.{FieldsLeft, next-field, field-turn, field-over, count-read}
+use Rattle.wiresize.proofs.Fields.{FieldsLeft, next-field, total-runs, field-turn, field-over, count-read}
 use Rattle.wiresize.proofs.Variants.{clash, VariantsLeft, variants-start, next-variant, variant-start, variant-turn, variant-over, variants-end, variants-behind}
 use Rattle.wiresize.proofs.Measure.{field-in-body}
 
@@ -32,7 +35,7 @@ abbrev μ-variants : compute-union-wire-size-lts.MeasureT-variants
 
 module _ (t : ℕ) where
   abbrev env : compute-union-wire-size-lts.Claims
-  env = (read-below-reads.Asked, read-below-reads.Learnt, compute-type-wire-size-below t, compute-type-wire-size.Post, add-field-reads.Asked, add-field-reads.Learnt, widen-reads.Asked, widen-reads.Learnt, tag-reads.Asked, tag-reads.Learnt)
+  env = (read-below-reads.Asked, read-below-reads.Learnt, empty-total-reads.Asked, empty-total-reads.Learnt, compute-type-wire-size-below t, compute-type-wire-size.Post, with-field-reads.Asked, with-field-reads.Learnt, total-size-reads.Asked, total-size-reads.Learnt, widen-reads.Asked, widen-reads.Learnt, tag-reads.Asked, tag-reads.Learnt)
 
   read-below-requires : compute-union-wire-size-lts.Need-read-below-requires env (compute-union-wire-size-at t) compute-union-wire-size.Post Inv-loop μ-loop Inv-variants μ-variants
   read-below-requires c κs = search needs
@@ -61,22 +64,19 @@ module _ (t : ℕ) where
   returns-2 : compute-union-wire-size-lts.Need-returns-2 env (compute-union-wire-size-at t) compute-union-wire-size.Post Inv-loop μ-loop Inv-variants μ-variants
   returns-2 c = absurd (not-refused (told (c .before .before .read-below2 .ensures) (c .enum-told2 .given .1)) (count-read _ _ _ (next-variant _ _ _ _ _ _ (c .before .before .before .before .variants .inv .1) (c .before .before .before .variants-test .taken) .here) .2))
 
+  empty-total-requires : compute-union-wire-size-lts.Need-empty-total-requires env (compute-union-wire-size-at t) compute-union-wire-size.Post Inv-loop μ-loop Inv-variants μ-variants
+  empty-total-requires c κs = search needs
+
   loop-holds : compute-union-wire-size-lts.Need-loop-holds env (compute-union-wire-size-at t) compute-union-wire-size.Post Inv-loop μ-loop Inv-variants μ-variants
-  loop-holds c = (c .before .before .before .before .before .variants .inv .0, variant-start _ _ _ _ _ _ (c .before .before .before .before .before .variants .inv .1) (c .before .before .before .before .variants-test .taken) (told (c .before .before .before .read-below2 .ensures) (c .before .fields .given .1)))
+  loop-holds c = (c .before .before .before .before .before .before .variants .inv .0, variant-start _ _ _ _ _ _ (c .before .before .before .before .before .before .variants .inv .1) (c .before .before .before .before .before .variants-test .taken) (told (c .before .before .before .before .read-below2 .ensures) (c .before .before .fields .given .1)) (c .empty-total .ensures))
 
   compute-type-wire-size-requires : compute-union-wire-size-lts.Need-compute-type-wire-size-requires env (compute-union-wire-size-at t) compute-union-wire-size.Post Inv-loop μ-loop Inv-variants μ-variants
   compute-type-wire-size-requires c κs =
       let f = next-field _ _ _ _ _ _ (c .before .loop .inv .1) (c .loop-test .taken) in
-      (omega (arith, field-in-body (c .before .before .before .before .before .before .before .before .before .before .before .before .before .before .before .args .working .now), c .before .before .before .before .before .before .before .before .before .before .before .before .before .before .before .pre .0), record { ready = c .before .before .before .before .before .before .before .before .before .before .before .before .before .before .before .pre .1 .ready; thing = _; end = _; reads = f .here })
+      (omega (arith, field-in-body (c .before .before .before .before .before .before .before .before .before .before .before .before .before .before .before .before .args .working .now), c .before .before .before .before .before .before .before .before .before .before .before .before .before .before .before .before .pre .0), record { ready = c .before .before .before .before .before .before .before .before .before .before .before .before .before .before .before .before .pre .1 .ready; thing = _; end = _; reads = f .here })
 
-  add-field-requires : compute-union-wire-size-lts.Need-add-field-requires env (compute-union-wire-size-at t) compute-union-wire-size.Post Inv-loop μ-loop Inv-variants μ-variants
-  add-field-requires c κs = omega arith
-
-  enum-known-sum : compute-union-wire-size-lts.Need-enum-known-sum env (compute-union-wire-size-at t) compute-union-wire-size.Post Inv-loop μ-loop Inv-variants μ-variants
-  enum-known-sum c = search needs
-
-  enum-told-3 : compute-union-wire-size-lts.Need-enum-told-3 env (compute-union-wire-size-at t) compute-union-wire-size.Post Inv-loop μ-loop Inv-variants μ-variants
-  enum-told-3 c = search needs
+  with-field-requires : compute-union-wire-size-lts.Need-with-field-requires env (compute-union-wire-size-at t) compute-union-wire-size.Post Inv-loop μ-loop Inv-variants μ-variants
+  with-field-requires c κs = total-runs _ _ _ _ _ _ (c .before .before .loop .inv .1)
 
   sub-more : compute-union-wire-size-lts.Need-sub-more env (compute-union-wire-size-at t) compute-union-wire-size.Post Inv-loop μ-loop Inv-variants μ-variants
   sub-more c = omega arith
@@ -85,7 +85,10 @@ module _ (t : ℕ) where
   loop-less c = omega arith
 
   loop-again : compute-union-wire-size-lts.Need-loop-again env (compute-union-wire-size-at t) compute-union-wire-size.Post Inv-loop μ-loop Inv-variants μ-variants
-  loop-again c = (c .before .before .before .before .before .before .loop .inv .0, field-turn _ _ _ _ _ _ (c .before .before .before .before .before .before .loop .inv .1) (c .before .before .before .before .before .loop-test .taken) _ (c .before .before .before .before .compute-type-wire-size .ensures) (c .before .before .before .add-field .ensures) (c .before .sum .given .1))
+  loop-again c = (c .before .before .before .before .before .before .loop .inv .0, field-turn _ _ _ _ _ _ (c .before .before .before .before .before .before .loop .inv .1) (c .before .before .before .before .before .loop-test .taken) _ (c .before .before .before .before .compute-type-wire-size .ensures) (c .before .before .before .with-field .ensures) (not-false _ (c .before .if1 .left)))
+
+  total-size-requires : compute-union-wire-size-lts.Need-total-size-requires env (compute-union-wire-size-at t) compute-union-wire-size.Post Inv-loop μ-loop Inv-variants μ-variants
+  total-size-requires c κs = search needs
 
   widen-requires : compute-union-wire-size-lts.Need-widen-requires env (compute-union-wire-size-at t) compute-union-wire-size.Post Inv-loop μ-loop Inv-variants μ-variants
   widen-requires c κs = search needs
@@ -97,17 +100,17 @@ module _ (t : ℕ) where
   variants-less c = omega arith
 
   variants-again : compute-union-wire-size-lts.Need-variants-again env (compute-union-wire-size-at t) compute-union-wire-size.Post Inv-loop μ-loop Inv-variants μ-variants
-  variants-again c = (c .before .before .loop .inv .0, variant-turn _ _ _ _ _ _ (c .before .before .before .before .before .before .before .before .variants .inv .1) (c .before .before .before .before .before .before .before .variants-test .taken) (told (c .before .before .before .before .before .before .read-below2 .ensures) (c .before .before .before .before .fields .given .1)) (c .before .before .loop .inv .1) (c .before .loop-test .left) (c .widen .ensures))
+  variants-again c = (c .before .before .before .loop .inv .0, variant-turn _ _ _ _ _ _ (c .before .before .before .before .before .before .before .before .before .before .variants .inv .1) (c .before .before .before .before .before .before .before .before .before .variants-test .taken) (told (c .before .before .before .before .before .before .before .before .read-below2 .ensures) (c .before .before .before .before .before .before .fields .given .1)) (c .before .before .before .loop .inv .1) (c .before .before .loop-test .left) (c .before .total-size .ensures) (c .widen .ensures))
 
   returns-3 : compute-union-wire-size-lts.Need-returns-3 env (compute-union-wire-size-at t) compute-union-wire-size.Post Inv-loop μ-loop Inv-variants μ-variants
   returns-3 c =
       record {
         worked = λ vs end q st H.
             ⊎-elim
-            (λ w. absurd (clash (c .if1 .taken) (w .2) (c .before .before .variants .inv .0)))
+            (λ w. absurd (clash (c .if2 .taken) (w .2) (c .before .before .variants .inv .0)))
             (λ w.
             variant-over _ _ _ _ _ _ (c .before .before .variants .inv .1) (w .0 .taken) (told (w .1 .ensures) (w .3 .given .1))
-            (field-over _ _ _ _ _ _ (w .5 .inv .1) (w .6 .taken) _ (w .7 .ensures) (w .8 .ensures) (w .10 .given .1)) vs end (variants-behind _ _ _ (told (c .before .before .before .before .before .before .read-below .ensures) (c .before .before .before .before .count .given .1)) q) st H)
+            (field-over _ _ _ _ _ _ (w .6 .inv .1) (w .7 .taken) _ (w .8 .ensures) (w .9 .ensures) (not-true _ (w .11 .taken))) vs end (variants-behind _ _ _ (told (c .before .before .before .before .before .before .read-below .ensures) (c .before .before .before .before .count .given .1)) q) st H)
             (c .before .variants-test .came);
       }
 
@@ -120,9 +123,9 @@ module _ (t : ℕ) where
         worked = λ vs end q st H.
             ⊎-elim
             (λ w. variants-end _ _ _ _ _ _ (c .before .before .before .variants .inv .1) (w .0 .left) (c .tag .ensures) vs end (variants-behind _ _ _ (told (c .before .before .before .before .before .before .before .read-below .ensures) (c .before .before .before .before .before .count .given .1)) q) st H)
-            (λ w. absurd (clash refl (sym (w .12)) (c .before .if1 .left)))
+            (λ w. absurd (clash refl (sym (w .13)) (c .before .if2 .left)))
             (c .before .before .variants-test .came);
       }
 
   pub spec : {M : Type 1} → compute-union-wire-size-lts.Closed env (compute-union-wire-size-at t) compute-union-wire-size.Post M
-  spec = compute-union-wire-size-lts.spec env (compute-union-wire-size-at t) compute-union-wire-size.Post Inv-loop μ-loop Inv-variants μ-variants read-below-requires enum-known-count enum-told returns variants-holds read-below-requires-2 enum-known-fields enum-told-2 returns-2 loop-holds compute-type-wire-size-requires add-field-requires enum-known-sum enum-told-3 sub-more loop-less loop-again widen-requires sub-left variants-less variants-again returns-3 tag-requires returns-4
+  spec = compute-union-wire-size-lts.spec env (compute-union-wire-size-at t) compute-union-wire-size.Post Inv-loop μ-loop Inv-variants μ-variants read-below-requires enum-known-count enum-told returns variants-holds read-below-requires-2 enum-known-fields enum-told-2 returns-2 empty-total-requires loop-holds compute-type-wire-size-requires with-field-requires sub-more loop-less loop-again total-size-requires widen-requires sub-left variants-less variants-again returns-3 tag-requires returns-4
