@@ -26,7 +26,7 @@ pub type Checker = fn(&[u8], &mut [u64], &mut [u32]) -> Verdict;
 pub struct Library {
     pub read: Reader,
     pub sizes: Sizer,
-    /// None while the library has no such function.
+    /// None leaves the findings out, which take longest to compare.
     pub check: Option<Checker>,
 }
 

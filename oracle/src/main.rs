@@ -2,6 +2,7 @@
 
 use std::fs::File;
 use std::io::{self, BufWriter, Read, Write};
+use std::path::Path;
 use std::process::{Command, ExitCode};
 use std::time::Instant;
 
@@ -14,7 +15,7 @@ use oracle::format::SLOT_LIMIT;
 use oracle::generate::{family_named, Families, FAMILIES};
 use oracle::library::{Call, Library, Verdict};
 use oracle::program;
-use oracle::record::{record, record_lines};
+use oracle::record::{record, record_lines, write_images};
 use oracle::stack::{self, Subject};
 use oracle::survey::survey;
 use oracle::tally::{COLUMNS, TOO_LONG};
@@ -28,6 +29,7 @@ oracle shrink < image                            the smallest image that differs
 oracle survey --count N --seed S [--family F]    whole answers of the Rust alone, counted
 oracle record --count N --seed S --out FILE      images and how they are read
 oracle record-lines --count N --seed S --out FILE  images and the lines of vexcheck
+oracle images --count N --seed S --out FOLDER    images that are not long, a file each
 oracle program --binary FILE --count N --seed S  a vexcheck and the Rust on generated images
 oracle bench                                     times of reading, sizes, check; ratios
 oracle stack                                     least stack on which deep images are answered
@@ -65,6 +67,7 @@ fn run(arguments: &[String]) -> Result<bool, Failure> {
         "survey" => return run_survey(options),
         "record" => run_record(options)?,
         "record-lines" => run_record_lines(options)?,
+        "images" => run_images(options)?,
         "program" => return run_program(options),
         "bench" => on_long_stack(|| bench(ours().ok())),
         "stack" => return run_stack(options),
@@ -211,6 +214,12 @@ fn run_record_lines(options: &[String]) -> Result<(), Failure> {
     let mut out = output_file(options)?;
     record_lines(selection(options)?, &mut out)?;
     out.flush()?;
+    Ok(())
+}
+
+fn run_images(options: &[String]) -> Result<(), Failure> {
+    let folder = Path::new(option(options, "--out").ok_or("--out is missing")?);
+    write_images(selection(options)?, folder)?;
     Ok(())
 }
 

@@ -17,7 +17,6 @@ extern "C" {
         sizes_len: usize,
     ) -> Verdict;
 
-    #[cfg(feature = "check")]
     fn vexil_check(
         image: *const u8,
         image_len: usize,
@@ -31,10 +30,7 @@ extern "C" {
 pub const OURS: Library = Library {
     read,
     sizes,
-    #[cfg(feature = "check")]
     check: Some(check),
-    #[cfg(not(feature = "check"))]
-    check: None,
 };
 
 // SAFETY of all calls: the pointers come from slices and go with their
@@ -55,7 +51,6 @@ fn sizes(image: &[u8], sizes: &mut [u64]) -> Verdict {
     unsafe { vexil_sizes(image.as_ptr(), image.len(), sizes.as_mut_ptr(), sizes.len()) }
 }
 
-#[cfg(feature = "check")]
 fn check(image: &[u8], sizes: &mut [u64], findings: &mut [u32]) -> Verdict {
     unsafe {
         vexil_check(

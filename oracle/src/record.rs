@@ -1,5 +1,6 @@
 //! Lists of images and their answers, for replay elsewhere. A file is a
-//! sequence of records without header; all numbers are little-endian.
+//! sequence of records up to its end: no header, no count, nothing between
+//! records or their parts. All numbers are little-endian.
 //!
 //! A record of reading is
 //!
@@ -8,13 +9,21 @@
 //! * its value (u64): the slot count, else the place,
 //! * if the number is 0, the start of each slot (u32 each).
 //!
-//! A record of the whole check is
+//! A record of the whole check, as `record-lines` writes it, is
 //!
-//! * the image's length (u32) and its bytes,
-//! * the length (u32) and the bytes of what `vexcheck` writes for it.
+//! * the image's length (u32), which may be 0, and its bytes,
+//! * the length (u32) and the bytes of all that `vexcheck` writes for it, from
+//!   its first line on, each line with its line feed: `vexil-typeck 1`, then
+//!   either `refused` or the lines of sizes, findings and `end`.
+//!
+//! First come the special images, whose image may pass the limit of 65,536
+//! bytes by one and whose lines may hold 1,000 findings; in each record after
+//! them, image and lines have at most 2,000 bytes each.
 
+use std::fs;
 use std::io::{self, Write};
 use std::ops::ControlFlow;
+use std::path::Path;
 
 use crate::answer::{answer, lines, PROGRAM_PLACES};
 use crate::compare::{each_image, Selection};
@@ -39,6 +48,18 @@ pub fn record_lines(selection: Selection, out: &mut (dyn Write + Send)) -> io::R
             write_lines(&image, usize::MAX, out)?;
         }
         each(selection, &mut |image| write_lines(image, LONGEST, out))
+    })
+}
+
+/// Writes the images of a selection that are not long, a numbered file each.
+pub fn write_images(selection: Selection, folder: &Path) -> io::Result<()> {
+    let mut number = 0;
+    each(selection, &mut |image| {
+        number += 1;
+        match image.len() <= LONGEST {
+            true => fs::write(folder.join(number.to_string()), image),
+            false => Ok(()),
+        }
     })
 }
 

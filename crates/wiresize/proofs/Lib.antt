@@ -7,6 +7,7 @@ pub mod Ends
 pub mod Naming
 pub mod Measure
 pub mod Typing
+pub mod Insides
 pub mod Fields
 pub mod Variants
 pub mod Own

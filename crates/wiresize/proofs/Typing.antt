@@ -18,7 +18,7 @@ use Rattle.sizes.specs.declared.Worked.the-variants.{Sized, Over}
 use Rattle.sizes.specs.Sizes.{then, limitedSum, limitedProduct, multiplied, withoutLargest, Resolver, leafSize, countOf, wrapSize, typeSize, raised, widened, varintEnd, zigZagEnd, encodedSize}
 use Rattle.measures.proofs.ByKind.{wrap-at}
 use Rattle.wiresize.proofs.Heads.{type-parts}
-use Rattle.wiresize.specs.Steps.{Headed, HasParts, LeafTo, Decides, codedAs}
+use Rattle.wiresize.specs.Steps.{Headed, LeafTo, NameIn, OneIn, SidesIn, AllSized, Decides, codedAs}
 use Rattle.wiresize.specs.declared.Decided.{Decided}
 use Rattle.wiresize.specs.declared.Coded.{Coded}
 
@@ -87,39 +87,51 @@ module _ (R : Resolver) {t : Tree} where
 
 -- ## Heads
 
-pub decided-leaf : {head : Head} (z : Size) (n : ℕ) → LeafTo head n → ((names : Resolver) (t : Tree) → Headed head t → Sized z ≡ typeSize names t) → Decides head (Decided.Leaf z n)
-decided-leaf {head} z n l h =
-    record {
-      leaf = λ y m e. (subst (LeafTo head) (at-inj e) l, λ names t p. subst (λ (x : Size). Sized x ≡ typeSize names t) (size-inj e) (h names t p));
-      sized = λ y e names t p. let q : _≡_ {A = ℕ} 0 1 = cc in absurd (omega arith);
-      parts = λ e. let q : _≡_ {A = ℕ} 0 1 = cc in absurd (omega arith);
-    }
-  where
-    size-inj : {y : Size} {m : ℕ} → Decided.Leaf z n ≡ Decided.Leaf y m → z ≡ y
-    size-inj e = cc
+module _ (x y : Head) (e : x ≡ y) where
+  moved : (r : Decided) → Decides y r → Decides x r
+  moved r h = subst (λ (z : Head). Decides z r) (sym e) h
 
-    at-inj : {y : Size} {m : ℕ} → Decided.Leaf z n ≡ Decided.Leaf y m → n ≡ m
-    at-inj e = cc
+  pub decided-leaf : (z : Size) (n : ℕ) → LeafTo y n → AllSized y z → Decides x (Decided.Leaf z n)
+  unfolding Decides
+  decided-leaf z n l h = moved (Decided.Leaf z n) (l, h)
 
-pub decided : {head : Head} (z : Size) → ((names : Resolver) (t : Tree) → Headed head t → Sized z ≡ typeSize names t) → Decides head (Decided.Pass z)
-decided {head} z h =
-    record {
-      leaf = λ y m e. let q : _≡_ {A = ℕ} 0 1 = cc in absurd (omega arith);
-      sized = λ y e names t p. subst (λ (x : Size). Sized x ≡ typeSize names t) (pass-inj e) (h names t p);
-      parts = λ e. let q : _≡_ {A = ℕ} 0 1 = cc in absurd (omega arith);
-    }
-  where
-    pass-inj : {y : Size} → Decided.Pass z ≡ Decided.Pass y → z ≡ y
-    pass-inj e = cc
+  pub decided-pass : (z : Size) → AllSized y z → Decides x (Decided.Pass z)
+  unfolding Decides
+  decided-pass z h = moved (Decided.Pass z) h
 
-pub has-parts : {head : Head} → HasParts head → Decides head Decided.Parts
-has-parts h = record { leaf = λ y m e. let q : _≡_ {A = ℕ} 0 1 = cc in absurd (omega arith); sized = λ z e names t p. let q : _≡_ {A = ℕ} 0 1 = cc in absurd (omega arith); parts = λ e. h }
+  pub decided-name : (i n : ℕ) → NameIn y i n → Decides x (Decided.Name i n)
+  unfolding Decides
+  decided-name i n h = moved (Decided.Name i n) h
 
-pub parts-at : {x y : Head} → HasParts x → x ≡ y → HasParts y
-parts-at h e = subst HasParts e h
+  pub decided-one : (k n : ℕ) → OneIn y k n → Decides x (Decided.One k n)
+  unfolding Decides
+  decided-one k n h = moved (Decided.One k n) h
 
-pub decided-at : {x y : Head} {r : Decided} → x ≡ y → Decides y r → Decides x r
-decided-at {r = r} e h = subst (λ (z : Head). Decides z r) (sym e) h
+  pub decided-sides : (n : ℕ) → SidesIn y n → Decides x (Decided.Sides n)
+  unfolding Decides
+  decided-sides n h = moved (Decided.Sides n) h
+
+-- what the answer says, once it was matched
+module _ (x : Head) (r : Decided) (h : Decides x r) where
+  pub leaf-decided : (z : Size) (n : ℕ) → r ≡ Decided.Leaf z n → LeafTo x n × AllSized x z
+  unfolding Decides
+  leaf-decided z n e = subst (Decides x) e h
+
+  pub pass-decided : (z : Size) → r ≡ Decided.Pass z → AllSized x z
+  unfolding Decides
+  pass-decided z e = subst (Decides x) e h
+
+  pub name-decided : (i n : ℕ) → r ≡ Decided.Name i n → NameIn x i n
+  unfolding Decides
+  name-decided i n e = subst (Decides x) e h
+
+  pub one-decided : (k n : ℕ) → r ≡ Decided.One k n → OneIn x k n
+  unfolding Decides
+  one-decided k n e = subst (Decides x) e h
+
+  pub sides-decided : (n : ℕ) → r ≡ Decided.Sides n → SidesIn x n
+  unfolding Decides
+  sides-decided n e = subst (Decides x) e h
 
 headed : (child : Grammar Tree) (s : List ℕ) (x : Head) (t : Tree) (end : ℕ) → Parts child s x t end → Headed x t
 headed child s (Head.Leaf k g v n) t end (l, e, a, b, c, d) = (l, e, a, c)

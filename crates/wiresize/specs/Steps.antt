@@ -46,15 +46,6 @@ Headed (Head.Sized n) t = (u : Tree) × (size : ℕ) × (t ≡ fixedArray u size
 Headed (Head.Generic v n) t = (u : Tree) × (t ≡ generic v u)
 Headed (Head.Refused r p) t = ⊥
 
--- a name, or a type with parts that are worked out
-abbrev pub HasParts : Head → Type 0
-HasParts (Head.Leaf k g v n) = k ≡ 3
-HasParts (Head.One k n) = (k ≡ 5 → ⊥) × (k ≡ 7 → ⊥)
-HasParts (Head.Two k n) = k ≡ 8 → ⊥
-HasParts (Head.Sized n) = Unit {0}
-HasParts (Head.Generic v n) = ⊥
-HasParts (Head.Refused r p) = ⊥
-
 -- the head of a type without parts, and the position after it
 abbrev pub LeafTo : Head → ℕ → Type 0
 LeafTo (Head.Leaf k g v m) n = m ≡ n
@@ -64,11 +55,44 @@ LeafTo (Head.Sized m) n = ⊥
 LeafTo (Head.Generic v m) n = ⊥
 LeafTo (Head.Refused r p) n = ⊥
 
--- the size of all types with this head, whatever names come to, or that they have parts
-pub record Decides (head : Head) (r : Decided) : Type 0 where
-  pub leaf : (z : Size) (n : ℕ) → r ≡ Decided.Leaf z n → LeafTo head n × ((names : Resolver) (t : Tree) → Headed head t → Sized z ≡ typeSize names t)
-  pub sized : (z : Size) → r ≡ Decided.Pass z → (names : Resolver) (t : Tree) → Headed head t → Sized z ≡ typeSize names t
-  pub parts : r ≡ Decided.Parts → HasParts head
+-- the head of a name, with its slot
+abbrev pub NameIn : Head → (slot next : ℕ) → Type 0
+NameIn (Head.Leaf k g v m) i n = (k ≡ 3) × (v ≡ i) × (m ≡ n)
+NameIn (Head.One k m) i n = ⊥
+NameIn (Head.Two k m) i n = ⊥
+NameIn (Head.Sized m) i n = ⊥
+NameIn (Head.Generic v m) i n = ⊥
+NameIn (Head.Refused r p) i n = ⊥
+
+-- the head of a type with one child that is worked out, of its kind
+abbrev pub OneIn : Head → (kind body : ℕ) → Type 0
+OneIn (Head.Leaf k g v m) j n = ⊥
+OneIn (Head.One k m) j n = (k ≡ j) × (m ≡ n) × (k ≡ 5 → ⊥) × (k ≡ 7 → ⊥)
+OneIn (Head.Two k m) j n = ⊥
+OneIn (Head.Sized m) j n = (6 ≡ j) × (m ≡ n)
+OneIn (Head.Generic v m) j n = ⊥
+OneIn (Head.Refused r p) j n = ⊥
+
+-- the head of a Result
+abbrev pub SidesIn : Head → (body : ℕ) → Type 0
+SidesIn (Head.Leaf k g v m) n = ⊥
+SidesIn (Head.One k m) n = ⊥
+SidesIn (Head.Two k m) n = (m ≡ n) × (k ≡ 8 → ⊥)
+SidesIn (Head.Sized m) n = ⊥
+SidesIn (Head.Generic v m) n = ⊥
+SidesIn (Head.Refused r p) n = ⊥
+
+-- the size of all types with this head, whatever names come to
+abbrev pub AllSized : Head → Size → Type 0
+AllSized head z = (names : Resolver) (t : Tree) → Headed head t → Sized z ≡ typeSize names t
+
+-- what a head decides
+unfoldable pub Decides : Head → Decided → Type 0
+Decides head (Decided.Leaf z n) = LeafTo head n × AllSized head z
+Decides head (Decided.Pass z) = AllSized head z
+Decides head (Decided.Name i n) = NameIn head i n
+Decides head (Decided.One k n) = OneIn head k n
+Decides head (Decided.Sides n) = SidesIn head n
 
 -- a type that was passed over, with a size that its head decides
 pub record Passed (names : ℕ) (s : List ℕ) (at : ℕ) (size : Tree → Worked) (r : Walked) : Type 0 where
@@ -107,6 +131,11 @@ pub record Arrays (s : List ℕ) (element r : Walked) : Type 0 where
   pub sized : (z : Size) → r .worked ≡ Sized z → (y : Size) × (element .worked ≡ Sized y)
   pub worked : (count end : ℕ) → ((y : Size) → element .worked ≡ Sized y → below (2 ^ 64) s (element .next) ≡ done count end)
       → r .worked ≡ then (element .worked) (λ y. limitedProduct (multiplied count (withoutLargest y)))
+
+-- the same of both, by the kind
+pub record Closes (s : List ℕ) (kind : ℕ) (child r : Walked) : Type 0 where
+  pub array : kind ≡ 6 → Arrays s child r
+  pub wrap : (kind ≡ 6 → ⊥) → Wraps kind child r
 
 -- what a turn answers of a size that was worked out
 abbrev pub turnedAs : Worked → Turned

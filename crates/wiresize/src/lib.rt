@@ -16,7 +16,7 @@ ghost use Rattle.tree.specs.TreeAt.{headAt, shape};
 ghost use Rattle.slot.specs.Field.{typeAt, fieldAt, fieldsAt, Field};
 ghost use Rattle.reader.specs.Promise.{Promise};
 ghost use Rattle.sizes.specs.Sizes.{typeSize, fieldSize, fieldsSize, unionSize, varintEnd, zigZagEnd};
-ghost use Rattle.wiresize.specs.Steps.{codedAs, kindIn, numberIn, Passed, Decides, Coding, Wraps, Results, Arrays, variantsAt, turnedAs};
+ghost use Rattle.wiresize.specs.Steps.{codedAs, kindIn, numberIn, Passed, Decides, Coding, Wraps, Results, Arrays, Closes, variantsAt, turnedAs};
 ghost use Rattle.wiresize.specs.Rows.{rowAt};
 ghost use Rattle.wiresize.specs.Asked.{Asked, Ready, Walks, WorksOut, Names, Owns};
 
@@ -39,11 +39,14 @@ pub struct Kinded {
     pub number: u64,
 }
 
-// What the head of a type decides: its size, with the position after it where it has no parts, or that its parts are to be worked out.
+// What the head of a type decides: its size, with the position after it where it has no parts; or which parts are to be
+// worked out: a name, one child with the kind around it (6 for a fixed array), or the two sides of a Result.
 pub enum Decided {
     Leaf(Size, usize),
     Pass(Size),
-    Parts,
+    Name(u64, usize),
+    One(u64, usize),
+    Sides(usize),
 }
 
 // What a row of the size table says of a name.
@@ -232,6 +235,16 @@ fn repeat_element(image: &[u8], element: Walked) -> Walked
     }
 }
 
+// A kind with one child, once the child was worked out.
+fn close_one(image: &[u8], kind: u64, child: Walked) -> Walked
+    ensures { λ r. ⌜ Closes (now (image .entry)) kind child r ⌝ }
+{
+    if kind == 6 {
+        return repeat_element(image, child);
+    }
+    wrap_child(kind, child)
+}
+
 // Types without parts, and those whose elements are not worked out: Array, Map and Set. No type holds a generic.
 fn head_wire_size(head: Head) -> Decided
     ensures { λ r. ⌜ Decides head r ⌝ }
@@ -239,28 +252,28 @@ fn head_wire_size(head: Head) -> Decided
     match head {
         Head::Leaf(kind, _, number, next) => {
             if kind == 3 {
-                return Decided::Parts;
+                return Decided::Name(number, next);
             }
             Decided::Leaf(measures::leaf_wire_size(kind, number), next)
         }
-        Head::One(kind, _) => match kind {
+        Head::One(kind, body) => match kind {
             5 => Decided::Pass(Size::Open(8)),
             7 => Decided::Pass(Size::Open(8)),
-            _ => Decided::Parts,
+            _ => Decided::One(kind, body),
         },
-        Head::Two(kind, _) => {
+        Head::Two(kind, body) => {
             if kind == 8 {
                 return Decided::Pass(Size::Open(8));
             }
-            Decided::Parts
+            Decided::Sides(body)
         }
-        Head::Sized(_) => Decided::Parts,
+        Head::Sized(body) => Decided::One(6, body),
         Head::Generic(_, _) => Decided::Pass(Size::Open(0)),
         Head::Refused(_, _) => Decided::Pass(Size::Open(0)),
     }
 }
 
-// A type.
+// A type. Its frame is kept small: types nest.
 fn compute_resolved_type_wire_size(
     image: &[u8],
     starts: &[usize],
@@ -275,25 +288,20 @@ fn compute_resolved_type_wire_size(
     let names = frame.names;
     let head = tree::read_head(image, at, Sort::Resolved, names);
     match head_wire_size(head) {
-        Decided::Leaf(size, next) => {
-            return Walked {
-                worked: Worked::Sized(size),
-                next,
-            };
-        }
-        Decided::Pass(size) => return pass_type(image, at, names, size),
-        Decided::Parts => {}
-    }
-    match head {
-        Head::Leaf(_, _, id, next) => {
+        Decided::Leaf(size, next) => Walked {
+            worked: Worked::Sized(size),
+            next,
+        },
+        Decided::Pass(size) => pass_type(image, at, names, size),
+        Decided::Name(id, next) => {
             let worked = named_type_wire_size(image, starts, frame, rows, id, working);
             Walked { worked, next }
         }
-        Head::One(kind, body) => {
+        Decided::One(kind, body) => {
             let child = compute_resolved_type_wire_size(image, starts, frame, rows, body, working);
-            wrap_child(kind, child)
+            close_one(image, kind, child)
         }
-        Head::Two(_, body) => {
+        Decided::Sides(body) => {
             let ok = compute_resolved_type_wire_size(image, starts, frame, rows, body, working);
             let worked = ok.worked;
             let Worked::Sized(size) = worked else {
@@ -303,18 +311,6 @@ fn compute_resolved_type_wire_size(
             let err = compute_resolved_type_wire_size(image, starts, frame, rows, place, working);
             join_sides(size, err)
         }
-        Head::Sized(body) => {
-            let item = compute_resolved_type_wire_size(image, starts, frame, rows, body, working);
-            repeat_element(image, item)
-        }
-        Head::Generic(_, place) => Walked {
-            worked: Worked::Over,
-            next: place,
-        },
-        Head::Refused(_, place) => Walked {
-            worked: Worked::Over,
-            next: place,
-        },
     }
 }
 

@@ -1,5 +1,7 @@
 //! The images that are timed.
 
+use crate::example::bond_report;
+use crate::export::export;
 use crate::format::IMAGE_LIMIT;
 use crate::generate::bounds::full_enum;
 use crate::generate::full::{full_names, one_message};
@@ -28,7 +30,12 @@ pub fn cases() -> Vec<Case> {
     };
     vec![
         case("nothing", Schema::default()),
-        case("one message", one_small_message()),
+        case("one message, 2 fields", one_small_message()),
+        case("one message, 12 fields", one_message_of(12)),
+        Case {
+            name: "bond report",
+            image: export(&bond_report()).expect("the example is within the limits"),
+        },
         case("typical, 40 slots", typical()),
         case("random, 40 slots", schema_of(&mut random, style, 40)),
         case("40 messages, inner first", nested(40, false)),
@@ -49,6 +56,11 @@ fn one_small_message() -> Schema {
         vec![0, 0],
         vec![message(0, vec![field(0, U8), field(1, U32)])],
     )
+}
+
+fn one_message_of(fields: u64) -> Schema {
+    let fields = (0..fields).map(|name| field(name, kind_of_field(name)));
+    declared(vec![0; 12], vec![message(0, fields.collect())])
 }
 
 /// Each message holds the next one, and is declared after or before it.

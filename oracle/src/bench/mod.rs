@@ -6,11 +6,10 @@ pub mod cases;
 use std::hint::black_box;
 use std::time::{Duration, Instant};
 
-use crate::answer::PROGRAM_PLACES;
 use crate::format::SLOT_LIMIT;
 use crate::import::{import, Imported};
 use crate::ir::CompiledSchema;
-use crate::library::Library;
+use crate::library::{Checker, Library};
 use crate::typeck::{check, compute_wire_sizes};
 use cases::{cases, Case};
 
@@ -52,7 +51,7 @@ const TASKS: [Task; 3] = [
         name: "image to size table",
         rust: compute_wire_sizes,
         ours: |image, ours| {
-            let mut sizes = vec![0; PROGRAM_PLACES.sizes as usize];
+            let mut sizes = vec![0; size_places(image, ours)];
             Some(repeated(move || {
                 black_box((ours.sizes)(black_box(image), &mut sizes));
             }))
@@ -65,14 +64,34 @@ const TASKS: [Task; 3] = [
         },
         ours: |image, ours| {
             let check = ours.check?;
-            let mut sizes = vec![0; PROGRAM_PLACES.sizes as usize];
-            let mut findings = vec![0; PROGRAM_PLACES.findings as usize];
+            let mut sizes = vec![0; size_places(image, ours)];
+            let mut findings = vec![0; finding_places(image, &mut sizes, check)];
             Some(repeated(move || {
                 black_box(check(black_box(image), &mut sizes, &mut findings));
             }))
         },
     },
 ];
+
+/// Three places a slot, none for a refused image.
+fn size_places(image: &[u8], ours: Library) -> usize {
+    let answer = (ours.read)(image, &mut vec![0; SLOT_LIMIT as usize]);
+    if answer.number == 0 {
+        3 * answer.value as usize
+    } else {
+        0
+    }
+}
+
+/// Six places a finding.
+fn finding_places(image: &[u8], sizes: &mut [u64], check: Checker) -> usize {
+    let answer = check(image, sizes, &mut vec![0; 6 << 16]);
+    if answer.number == 0 {
+        6 * answer.value as usize
+    } else {
+        0
+    }
+}
 
 /// Prints a table a task, with a line a case. Without a library only the Rust
 /// is measured.

@@ -190,7 +190,7 @@ fn implementing(random: &mut Random) -> Impl {
         arguments: (0..count).map(|_| resolved(random)).collect(),
         target: match random.below(8) {
             0 => Tree::Named(random.pick(&[EMPTY, 40, nowhere])),
-            1 => Tree::Named(random.pick(&[OTHER, TRAIT, PLAIN_ALIAS])),
+            1 | 3 => Tree::Named(random.pick(&[OTHER, TRAIT, PLAIN_ALIAS])),
             2 => wrap(OPTIONAL, Tree::Named(TARGET)),
             _ => Tree::Named(TARGET),
         },
