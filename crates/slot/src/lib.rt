@@ -7,6 +7,7 @@ ghost use mathlib.Core.Path.{_≡_};
 ghost use Rattle.number.specs.Grammar.{many, counted, read};
 ghost use Rattle.number.specs.Answers.{next, follow};
 ghost use Rattle.slot.specs.Field.{typeAt, spanAt, storedAt, fieldAt, fieldsAt};
+ghost use Rattle.slot.specs.Short.{shortLimit, shortOf, shortAt};
 ghost use Rattle.slot.specs.Slot.{messageAt, ordinalsAt, enumAt, flagsAt, unionAt, newtypeAt, aliasAt, traitFieldAt, traitAt, traitSpanAt, implAt, slotBodyAt, slotAt};
 
 pub fn skip_span(image: &[u8], cursor: Next) -> Next
@@ -51,13 +52,74 @@ pub fn skip_field(image: &[u8], cursor: Next, names: u64) -> Next
     tree::skip_tree(image, encoding, Sort::Resolved, names)
 }
 
+// A field of four bytes: its encoding, and the kind and the number of its type.
+pub enum Short {
+    Is(u64, u64, u64),
+    Other,
+}
+
+// What the number of a kind is below, as far as a byte goes; 0 for kinds that hold something else.
+fn short_limit(kind: u64) -> u64
+    ensures { λ r. ⌜ r ≡ shortLimit kind ⌝ }
+{
+    match kind {
+        0 => 14,
+        1 => 0,
+        2 => 6,
+        3 => 128,
+        _ => 0,
+    }
+}
+
+fn short_of(name: u64, encoding: u64, kind: u64, number: u64, names: u64) -> Short
+    ensures { λ r. ⌜ r ≡ shortOf name encoding kind number names ⌝ }
+{
+    if name < 128 {
+        if name < names {
+            if encoding < 3 {
+                if number < short_limit(kind) {
+                    return Short::Is(encoding, kind, number);
+                }
+            }
+        }
+    }
+    Short::Other
+}
+
+// The field at a position, if it has four bytes and no parts: most fields are such.
+pub fn short_field(image: &[u8], at: usize, names: u64) -> Short
+    ensures { λ r. ⌜ r ≡ shortAt names (now (image .entry)) at ⌝ }
+{
+    if image.len() < 4 {
+        return Short::Other;
+    }
+    if image.len() - 4 < at {
+        return Short::Other;
+    }
+    let name = number::wide(image[at]);
+    let encoding = number::wide(image[at + 1]);
+    let kind = number::wide(image[at + 2]);
+    let number = number::wide(image[at + 3]);
+    short_of(name, encoding, kind, number, names)
+}
+
+// The position after a field.
+fn next_field(image: &[u8], at: usize, names: u64) -> Next
+    ensures { λ r. ⌜ r ≡ next (read (fieldAt names) (now (image .entry)) at) ⌝ }
+{
+    match short_field(image, at, names) {
+        Short::Is(_, _, _) => Next::At(at + 4),
+        Short::Other => skip_field(image, Next::At(at), names),
+    }
+}
+
 fn read_fields(image: &[u8], at: usize, count: u64, names: u64) -> Next
     ensures { λ r. ⌜ r ≡ next (read (many count (fieldAt names)) (now (image .entry)) at) ⌝ }
 {
     let mut left = count;
     let mut p = at;
     while 0 < left {
-        match skip_field(image, Next::At(p), names) {
+        match next_field(image, p, names) {
             Next::At(after) => {
                 p = after;
                 left -= 1;

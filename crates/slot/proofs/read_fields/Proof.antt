@@ -16,11 +16,11 @@ abbrev μ-loop : tie.MeasureT-loop
 
 loop-again : tie.Need-loop-again Inv-loop μ-loop
 unfolding follow
-loop-again c = c .before .before .before .before .before .loop .inv ∙ many-on _ _ _ _ (c .before .before .before .before .loop-test .taken) _ (sym (c .before .before .before .skip-field .ensures) ∙ c .before .after .given .1)
+loop-again c = c .before .before .before .before .before .loop .inv ∙ many-on _ _ _ _ (c .before .before .before .before .loop-test .taken) _ (sym (c .before .before .before .next-field .ensures) ∙ c .before .after .given .1)
 
 returns : tie.Need-returns Inv-loop μ-loop
 unfolding follow
-returns c = sym (c .before .before .before .before .before .loop .inv ∙ many-stop _ _ _ _ (c .before .before .before .before .loop-test .taken) _ _ (sym (c .before .before .before .skip-field .ensures) ∙ c .before .r .given .1))
+returns c = sym (c .before .before .before .before .before .loop .inv ∙ many-stop _ _ _ _ (c .before .before .before .before .loop-test .taken) _ _ (sym (c .before .before .before .next-field .ensures) ∙ c .before .r .given .1))
 
 pub read-fields-spec : {M : Type 1} → statement M
 read-fields-spec =

@@ -1,0 +1,174 @@
+-- Fields of four bytes read as fields. Assumes nothing.
+use Prim.Native.Nat.{ℕ, _+_, _^_, _<_, _≤_}
+use mathlib.Core.Path.{_≡_, refl, sym, ap, _∙_}
+use mathlib.Core.List.{List, [], _∷_}
+use mathlib.Core.Bool.{Bool, true, false, cond}
+use native.Mathlib.Omega.{arith}
+use lib.Dec.{ltb}
+use lib.ListN.{length, getD, List·getD-eq-default}
+use borrow.Author.Tests.{lt-ltb, le-ltb, ltb-true, ltb-false}
+use Rattle.number.specs.Grammar.{name, kind, value, slot, number, done, andThen, below, read}
+use Rattle.number.proofs.Reading.{read-bind, read-number, number-on, then-on}
+use Rattle.number.proofs.InRange.{byte-in-range}
+use Rattle.tree.specs.Tree.{Leaf, leaf, leafKind, leafNumber}
+use Rattle.tree.specs.TreeAt.{none, bodyAt, headAt, fill, treeAt}
+use Rattle.tree.specs.Encoding.{encodingFill, encodingAt}
+use Rattle.tree.specs.declared.Sort.the-variants.{Resolved}
+use Rattle.tree.proofs.Ranges.{each}
+use Rattle.tree.proofs.Levels.{nested-on}
+use Rattle.slot.specs.Field.{typeAt, fieldAt}
+use Rattle.slot.specs.Short.{shortLimit, shortOf, shortAt, shortEncoding, shortLeaf, shortField}
+use Rattle.slot.specs.declared.Short.{Short}
+
+-- what is known of the four bytes
+pub record Bytes (names : ℕ) (s : List ℕ) (at e k v : ℕ) : Type 0 where
+  pub long : at + 4 ≤ length s
+  pub name : getD s at 0 < 128
+  pub known : getD s at 0 < names
+  pub encoding : e ≡ getD s (at + 1) 0
+  pub kind : k ≡ getD s (at + 2) 0
+  pub number : v ≡ getD s (at + 3) 0
+  pub coded : e < 3
+  pub limit : v < shortLimit k
+
+bytes-of : (names n e k v : ℕ) (x y z : ℕ) → shortOf n e k v names ≡ Short.Is x y z → (n < 128) × (n < names) × (e < 3) × (v < shortLimit k) × (x ≡ e) × (y ≡ k) × (z ≡ v)
+unfolding shortOf
+bytes-of names n e k v x y z h = go (ltb n 128) (ltb n names) (ltb e 3) (ltb v (shortLimit k)) refl refl refl refl h
+  where
+    none-is : Short.Other ≡ Short.Is x y z → ⊥
+    none-is f = let q : _≡_ {A = ℕ} 0 1 = cc in omega arith
+
+    go : (a b c d : Bool) → ltb n 128 ≡ a → ltb n names ≡ b → ltb e 3 ≡ c → ltb v (shortLimit k) ≡ d
+        → cond a (cond b (cond c (cond d (Short.Is e k v) Short.Other) Short.Other) Short.Other) Short.Other ≡ Short.Is x y z
+        → (n < 128) × (n < names) × (e < 3) × (v < shortLimit k) × (x ≡ e) × (y ≡ k) × (z ≡ v)
+    go true true true true p q r t f = (ltb-true _ _ p, ltb-true _ _ q, ltb-true _ _ r, ltb-true _ _ t, cc, cc, cc)
+    go true true true false p q r t f = absurd (none-is f)
+    go true true false d p q r t f = absurd (none-is f)
+    go true false c d p q r t f = absurd (none-is f)
+    go false b c d p q r t f = absurd (none-is f)
+
+pub short-past : (k : ℕ) → 4 ≤ k → 0 ≡ shortLimit k
+unfolding shortLimit
+short-past k h = sym (List·getD-eq-default {A = ℕ} (14 ∷ 0 ∷ 6 ∷ 128 ∷ []) 0 {n = k} h)
+
+-- kinds that have a limit
+limited : (k v : ℕ) → v < shortLimit k → k < 4
+limited k v h = go (ltb k 4) refl
+  where
+    go : (b : Bool) → ltb k 4 ≡ b → k < 4
+    go true e = ltb-true _ _ e
+    go false e = absurd (omega (arith, short-past k (ltb-false _ _ e)))
+
+-- ## The code's tests
+
+module _ (n e k v names : ℕ) where
+  pub is-short : n < 128 → n < names → e < 3 → (l : ℕ) → l ≡ shortLimit k → v < l → Short.Is e k v ≡ shortOf n e k v names
+  unfolding shortOf
+  is-short a b c l i d = simp (lt-ltb _ _ a, lt-ltb _ _ b, lt-ltb _ _ c, lt-ltb v (shortLimit k) (omega arith))
+
+  pub long-name : 128 ≤ n → Short.Other ≡ shortOf n e k v names
+  unfolding shortOf
+  long-name a = simp (le-ltb _ _ a)
+
+  pub no-name : n < 128 → names ≤ n → Short.Other ≡ shortOf n e k v names
+  unfolding shortOf
+  no-name a b = simp (lt-ltb _ _ a, le-ltb _ _ b)
+
+  pub nested-encoding : n < 128 → n < names → 3 ≤ e → Short.Other ≡ shortOf n e k v names
+  unfolding shortOf
+  nested-encoding a b c = simp (lt-ltb _ _ a, lt-ltb _ _ b, le-ltb _ _ c)
+
+  pub other-kind : n < 128 → n < names → e < 3 → (l : ℕ) → l ≡ shortLimit k → l ≤ v → Short.Other ≡ shortOf n e k v names
+  unfolding shortOf
+  other-kind a b c l i d = simp (lt-ltb _ _ a, lt-ltb _ _ b, lt-ltb _ _ c, le-ltb v (shortLimit k) (omega arith))
+
+module _ (names : ℕ) (s : List ℕ) (at : ℕ) where
+  pub too-near : length s < at + 4 → Short.Other ≡ shortAt names s at
+  unfolding shortAt
+  too-near h = simp (lt-ltb _ _ h)
+
+  pub by-bytes : at + 4 ≤ length s → (n e k v : ℕ) → n ≡ getD s at 0 → e ≡ getD s (at + 1) 0 → k ≡ getD s (at + 2) 0 → v ≡ getD s (at + 3) 0 → (r : Short) → r ≡ shortOf n e k v names
+      → r ≡ shortAt names s at
+  unfolding shortAt
+  by-bytes h n e k v a b c d r f = f ∙ rw (a, b, c, d) (simp (le-ltb _ _ h))
+
+-- ## The field that is read
+
+module _ (names : ℕ) (s : List ℕ) (at e k v : ℕ) (h : shortAt names s at ≡ Short.Is e k v) where
+  pub short-bytes : Bytes names s at e k v
+  unfolding shortAt
+  short-bytes = go (ltb (length s) (at + 4)) refl h
+    where
+      go : (b : Bool) → ltb (length s) (at + 4) ≡ b
+          → cond b Short.Other (shortOf (getD s at 0) (getD s (at + 1) 0) (getD s (at + 2) 0) (getD s (at + 3) 0) names) ≡ Short.Is e k v → Bytes names s at e k v
+      go true p f = let q : _≡_ {A = ℕ} 0 1 = cc in absurd (omega arith)
+      go false p f =
+          let b = bytes-of names _ _ _ _ e k v f in
+          record {
+            long = ltb-false _ _ p;
+            name = b .0;
+            known = b .1;
+            encoding = b .4;
+            kind = b .5;
+            number = b .6;
+            coded = omega (arith, b .2, b .4);
+            limit = rw (b .5, b .6) (b .3);
+          }
+
+  byte : (p q limit x : ℕ) → x ≡ getD s p 0 → p < length s → x < 128 → x < limit → p + 1 ≡ q → below limit s p ≡ done x q
+  byte p q limit x i l a b f = byte-in-range s p limit x i l a b ∙ ap (done x) f
+
+  encoding-reads : read (encodingAt 32) s (at + 1) ≡ done (shortEncoding e) (at + 2)
+  unfolding encodingAt encodingFill read
+  encoding-reads =
+      let b = short-bytes in
+      nested-on 4 (number kind 4) encodingFill s (at + 1) 32 (omega arith)
+      ∙ then-on _ _ (read-number kind 4 s (at + 1) ∙ byte (at + 1) (at + 2) 4 e (b .encoding) (omega (arith, b .long)) (omega (arith, b .coded)) (omega (arith, b .coded)) (omega arith))
+      ∙ each (λ x. read (encodingFill (encodingAt 31) x) s (at + 2) ≡ done (shortEncoding x) (at + 2)) 0 3 (refl, (refl, (refl, tt))) e (omega arith) (omega (arith, b .coded))
+
+  body-reads : v ≡ getD s (at + 3) 0 → at + 4 ≤ length s → (x : ℕ) → x < 4 → v < shortLimit x → read (bodyAt Resolved names x) s (at + 3) ≡ done (none (shortLeaf x v)) (at + 4)
+  unfolding shortLimit bodyAt read
+  body-reads i h x l =
+      each (λ y. v < shortLimit y → read (bodyAt Resolved names y) s (at + 3) ≡ done (none (shortLeaf y v)) (at + 4)) 0 4 (
+        (λ a. number-on value 14 _ s (at + 3) v (at + 4) (last 14 (omega arith) a)),
+        (
+          (λ a. absurd (omega arith)),
+          (
+            (λ a. number-on value 6 _ s (at + 3) v (at + 4) (last 6 (omega arith) a)),
+            ((λ a. number-on slot (2 ^ 32) _ s (at + 3) v (at + 4) (last (2 ^ 32) a (omega arith))), tt),
+          ),
+        ),
+      ) x (omega arith) (omega arith)
+    where
+      last : (limit : ℕ) → v < 128 → v < limit → below limit s (at + 3) ≡ done v (at + 4)
+      last limit a b = byte (at + 3) (at + 4) limit v i (omega arith) a b (omega arith)
+
+  type-reads : read (typeAt names) s (at + 2) ≡ done (leaf (shortLeaf k v)) (at + 4)
+  unfolding treeAt headAt fill read
+  type-reads =
+      let b = short-bytes in
+      let l = limited k v (b .limit) in
+      let head : read (headAt Resolved names) s (at + 2) ≡ done (none (shortLeaf k v)) (at + 4) =
+      number-on kind 17 (bodyAt Resolved names) s (at + 2) k (at + 3) (byte (at + 2) (at + 3) 17 k (b .kind) (omega (arith, b .long)) (omega arith) (omega arith) (omega arith))
+      ∙ body-reads (b .number) (b .long) k l (b .limit) in
+      nested-on 17 (headAt Resolved names) fill s (at + 2) 32 (omega arith) ∙ then-on _ _ head
+
+  pub short-reads : read (fieldAt names) s at ≡ done (shortField (getD s at 0) e k v) (at + 4)
+  unfolding fieldAt read
+  short-reads =
+      let b = short-bytes in
+      number-on name names _ s at (getD s at 0) (at + 1) (byte at (at + 1) names (getD s at 0) refl (omega (arith, b .long)) (b .name) (b .known) refl)
+      ∙ read-bind (encodingAt 32) _ s (at + 1)
+      ∙ then-on _ _ encoding-reads
+      ∙ read-bind (typeAt names) _ s (at + 2)
+      ∙ then-on _ _ type-reads
+
+  -- what the kind and the number say of the type
+  pub short-kind : leafKind (shortLeaf k v) ≡ k
+  unfolding shortLimit
+  short-kind =
+      each (λ x. v < shortLimit x → leafKind (shortLeaf x v) ≡ x) 0 4 ((λ a. refl), ((λ a. absurd (omega arith)), ((λ a. refl), ((λ a. refl), tt)))) k (omega arith)
+      (limited k v (short-bytes .limit)) (short-bytes .limit)
+
+  pub short-number : leafNumber (shortLeaf k v) ≡ v
+  short-number = each (λ x. leafNumber (shortLeaf x v) ≡ v) 0 4 (refl, (refl, (refl, (refl, tt)))) k (omega arith) (limited k v (short-bytes .limit))
