@@ -7,10 +7,10 @@ use native.Mathlib.Omega.{arith}
 use lib.Dec.{ltb}
 use lib.ListN.{length, getD, List·getD-eq-default}
 use borrow.Author.Tests.{lt-ltb, le-ltb, ltb-true, ltb-false}
-use Rattle.number.specs.Grammar.{name, kind, value, slot, number, done, andThen, below, read}
+use Rattle.number.specs.Grammar.{name, kind, value, slot, number, done, below, read}
 use Rattle.number.proofs.Reading.{read-bind, read-number, number-on, then-on}
 use Rattle.number.proofs.InRange.{byte-in-range}
-use Rattle.tree.specs.Tree.{Leaf, leaf, leafKind, leafNumber}
+use Rattle.tree.specs.Tree.{leaf, leafKind, leafNumber}
 use Rattle.tree.specs.TreeAt.{none, bodyAt, headAt, fill, treeAt}
 use Rattle.tree.specs.Encoding.{encodingFill, encodingAt}
 use Rattle.tree.specs.declared.Sort.the-variants.{Resolved}
@@ -143,7 +143,7 @@ module _ (names : ℕ) (s : List ℕ) (at e k v : ℕ) (h : shortAt names s at �
       last : (limit : ℕ) → v < 128 → v < limit → below limit s (at + 3) ≡ done v (at + 4)
       last limit a b = byte (at + 3) (at + 4) limit v i (omega arith) a b (omega arith)
 
-  type-reads : read (typeAt names) s (at + 2) ≡ done (leaf (shortLeaf k v)) (at + 4)
+  pub type-reads : read (typeAt names) s (at + 2) ≡ done (leaf (shortLeaf k v)) (at + 4)
   unfolding treeAt headAt fill read
   type-reads =
       let b = short-bytes in

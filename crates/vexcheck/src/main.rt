@@ -2,11 +2,9 @@
 
 use libc::STDIN_FILENO;
 use libc::STDOUT_FILENO;
-use typeck::Verdict;
 ghost use Prim.Native.Nat.{_≤_};
 ghost use lib.ListN.{length};
-ghost use Rattle.lines.specs.Lines.{Holds};
-ghost use Rattle.vexcheck.specs.Text.{textOf, textFor, countOf};
+ghost use Rattle.vexcheck.specs.Count.{countOf};
 
 // What standard input gave: so many bytes, or a read that failed.
 enum Taken {
@@ -47,32 +45,13 @@ fn take_all(buf: &mut [u8]) -> Taken
     Taken::Bytes(at)
 }
 
-fn write_verdict(verdict: Verdict, sizes: &[u64], findings: &[u32], out: &mut [u8]) -> usize
-    ensures { λ r. ⌜ Holds (length (now (out .entry))) (textOf verdict (now (sizes .entry)) (now (findings .entry))) (now (out .exit)) r ⌝ }
-{
-    match verdict {
-        Verdict::Accepted(count) => lines::write_accepted(sizes, findings, count, out),
-        Verdict::Refused(number, place) => lines::write_refused(number as u64, place, out),
-    }
-}
-
-// Places for 512 slots and 1,000 findings.
-fn report(image: &[u8], out: &mut [u8]) -> usize
-    ensures { λ r. ⌜ Holds (length (now (out .entry))) (textFor (now (image .entry))) (now (out .exit)) r ⌝ }
-{
-    let mut sizes = [0u64; 1536];
-    let mut findings = [0u32; 6000];
-    let verdict = typeck::check(image, &mut sizes, &mut findings);
-    write_verdict(verdict, &sizes, &findings, out)
-}
-
 // The text of whatever standard input brings.
 fn answer(image: &mut [u8], out: &mut [u8]) -> usize
     ensures { λ r. ⌜ r ≤ length (now (out .exit)) ⌝ }
 {
     match take_all(image) {
         Taken::Failed => lines::write_refused(0, 0, out),
-        Taken::Bytes(n) => report(&image[0..n], out),
+        Taken::Bytes(n) => report::report(&image[0..n], out),
     }
 }
 

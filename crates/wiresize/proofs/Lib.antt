@@ -11,3 +11,4 @@ pub mod Insides
 pub mod Fields
 pub mod Variants
 pub mod Own
+pub mod Settling

@@ -6,14 +6,15 @@ use Rattle.number.specs.Grammar.{Grammar, counted, done, below, read}
 use Rattle.tree.specs.Tree.{Tree, Leaf, Wrap, Pair, leaf, wrap, fixedArray, pair, generic, leafKind, leafNumber, wrapKind, pairKind}
 use Rattle.tree.specs.Encoding.{Encoding, default, varint, zigZag, delta}
 use Rattle.tree.specs.declared.Head.{Head}
-use Rattle.slot.specs.Field.{typeAt, fieldsAt, Field}
+use Rattle.slot.specs.Field.{typeAt, fieldAt, fieldsAt, Field}
 use Rattle.sizes.specs.declared.Size.{Size}
 use Rattle.sizes.specs.declared.Worked.{Worked}
 use Rattle.sizes.specs.declared.Worked.the-variants.{Sized, Over}
-use Rattle.sizes.specs.Sizes.{then, limitedSum, limitedProduct, Resolver, countOf, wrapSize, typeSize, raised, widened, multiplied, withoutLargest}
+use Rattle.sizes.specs.Sizes.{then, limitedSum, limitedProduct, Resolver, countOf, wrapSize, typeSize, fieldSize, raised, widened, multiplied, withoutLargest}
 use Rattle.wiresize.specs.declared.Walked.{Walked}
 use Rattle.wiresize.specs.declared.Decided.{Decided}
 use Rattle.wiresize.specs.declared.Coded.{Coded}
+use Rattle.wiresize.specs.declared.Settled.{Settled}
 use Rattle.wiresize.specs.declared.Turned.{Turned}
 
 -- the variants of a union
@@ -110,6 +111,11 @@ pub record Coding (names : ℕ) (s : List ℕ) (x : Field) (end : ℕ) (r : Code
   pub place : ℕ
   pub coded : r ≡ codedAs (x .encoding) place
   pub reads : read (typeAt names) s place ≡ done (x .type) end
+
+-- a field: its size, whatever names come to; or where its type stands, if that decides
+unfoldable pub Settles : (names : ℕ) → List ℕ → (at : ℕ) → Settled → Type 0
+Settles names s at (Settled.Is w) = (x : Field) (end : ℕ) → read (fieldAt names) s at ≡ done x end → (w .next ≡ end) × ((R : Resolver) → w .worked ≡ fieldSize R x)
+Settles names s at (Settled.At p) = (x : Field) (end : ℕ) → read (fieldAt names) s at ≡ done x end → (read (typeAt names) s p ≡ done (x .type) end) × ((R : Resolver) → typeSize R (x .type) ≡ fieldSize R x)
 
 -- what is made of a part, at the part's end: a size only where the part has one
 pub record Made (part r : Walked) (size : Worked → Worked) : Type 0 where

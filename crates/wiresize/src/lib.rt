@@ -4,19 +4,23 @@ use number::Next;
 use number::Ranged;
 use sizes::Size;
 use sizes::Worked;
+use slot::Short;
 use tree::Head;
 use tree::Sort;
 use view::Part;
 ghost use mathlib.Core.Path.{_≡_};
+ghost use mathlib.Core.List.{List};
 ghost use Prim.Native.Nat.{ℕ, _+_, _*_, _<_, _≤_};
 ghost use lib.ListN.{length};
 ghost use Rattle.number.specs.Grammar.{done, read};
 ghost use Rattle.tree.specs.Encoding.{Encoding, encodingAt};
 ghost use Rattle.tree.specs.TreeAt.{headAt, shape};
 ghost use Rattle.slot.specs.Field.{typeAt, fieldAt, fieldsAt, Field};
+ghost use Rattle.slot.specs.Short.{shortAt};
+ghost use Rattle.slot.specs.declared.Short.{Short};
 ghost use Rattle.reader.specs.Promise.{Promise};
 ghost use Rattle.sizes.specs.Sizes.{typeSize, fieldSize, fieldsSize, unionSize, varintEnd, zigZagEnd};
-ghost use Rattle.wiresize.specs.Steps.{codedAs, kindIn, numberIn, Passed, Decides, Coding, Wraps, Results, Arrays, Closes, variantsAt, turnedAs};
+ghost use Rattle.wiresize.specs.Steps.{codedAs, kindIn, numberIn, Passed, Decides, Coding, Settles, Wraps, Results, Arrays, Closes, variantsAt, turnedAs};
 ghost use Rattle.wiresize.specs.Rows.{rowAt};
 ghost use Rattle.wiresize.specs.Asked.{Asked, Ready, Walks, WorksOut, Names, Owns};
 
@@ -31,6 +35,13 @@ pub enum Coded {
     Plain(usize),
     Varint(usize),
     ZigZag(usize),
+}
+
+// What is known of a field before names are: its size, where Varint or ZigZag governs it or it holds nothing but a number;
+// else where its type stands.
+pub enum Settled {
+    Is(Walked),
+    At(usize),
 }
 
 // The kind and the number of a type's head.
@@ -162,6 +173,52 @@ fn field_type(image: &[u8], at: usize, names: u64) -> Coded
     match number::skip_below(image, at, names) {
         Next::At(p) => read_coded(image, p),
         Next::Refused(_, place) => Coded::Plain(place),
+    }
+}
+
+fn settle_long(image: &[u8], at: usize, names: u64) -> Settled
+    ensures { λ r. ⌜ Settles names (now (image .entry)) at r ⌝ }
+{
+    match field_type(image, at, names) {
+        Coded::Plain(p) => Settled::At(p),
+        Coded::Varint(p) => Settled::Is(varint_type(image, p, names)),
+        Coded::ZigZag(p) => Settled::Is(zigzag_type(image, p, names)),
+    }
+}
+
+fn sized(size: Size, next: usize) -> Settled
+    ensures { λ r. ⌜ r ≡ Settled.Is record { worked = Worked.Sized size; next = next } ⌝ }
+{
+    Settled::Is(Walked {
+        worked: Worked::Sized(size),
+        next,
+    })
+}
+
+// A field of four bytes, by them. A name is still to be worked out.
+fn settle_short(place: usize, next: usize, encoding: u64, kind: u64, number: u64) -> Settled
+    ensures { λ r. ⌜ ((names : ℕ) (s : List ℕ) (at : ℕ) → place ≡ at + 2 → next ≡ at + 4 → shortAt names s at ≡ Short.Is encoding kind number → Settles names s at r) ⌝ }
+{
+    match encoding {
+        0 => {
+            if kind == 3 {
+                return Settled::At(place);
+            }
+            sized(measures::leaf_wire_size(kind, number), next)
+        }
+        1 => sized(measures::varint_wire_size(kind, number), next),
+        _ => sized(measures::zigzag_wire_size(kind, number), next),
+    }
+}
+
+fn settle(image: &[u8], at: usize, names: u64) -> Settled
+    ensures { λ r. ⌜ Settles names (now (image .entry)) at r ⌝ }
+{
+    match slot::short_field(image, at, names) {
+        Short::Is(encoding, kind, number) => {
+            settle_short(at + 2, at + 4, encoding, kind, number)
+        }
+        Short::Other => settle_long(image, at, names),
     }
 }
 
@@ -361,7 +418,7 @@ fn named_type_wire_size(
     }
 }
 
-// A field: its type, unless Varint or ZigZag governs it.
+// A field: its type, unless what is known before names settles it.
 fn compute_type_wire_size(
     image: &[u8],
     starts: &[usize],
@@ -373,12 +430,11 @@ fn compute_type_wire_size(
     requires { ⌜ Asked (fieldAt (frame .names)) (now image) (now starts) frame (now rows) (now working) at ⌝ }
     ensures { λ r. ⌜ Walks (fieldAt (frame .names)) fieldSize (now (image .entry)) (now (rows .entry)) (now (working .entry)) at r ⌝ }
 {
-    match field_type(image, at, frame.names) {
-        Coded::Plain(p) => {
+    match settle(image, at, frame.names) {
+        Settled::Is(field) => field,
+        Settled::At(p) => {
             compute_resolved_type_wire_size(image, starts, frame, rows, p, working)
         }
-        Coded::Varint(p) => varint_type(image, p, frame.names),
-        Coded::ZigZag(p) => zigzag_type(image, p, frame.names),
     }
 }
 

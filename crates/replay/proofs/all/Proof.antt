@@ -8,10 +8,10 @@ use Rattle.replay.proofs.all.Statement.{statement}
 use Rattle.replay.proofs.all.Tie as tie
 
 abbrev Inv-loop : tie.InvT-loop
-Inv-loop fd image₀ counts₀ done₀ wrong₀ image counts done wrong = (wrong ≤ done) × (done ≤ 1000000) × (length image ≡ length image₀) × (length counts ≡ length counts₀)
+Inv-loop fd name kind image₀ counts₀ done₀ wrong₀ image counts done wrong = (wrong ≤ done) × (done ≤ 1000000) × (length image ≡ length image₀) × (length counts ≡ length counts₀)
 
 abbrev μ-loop : tie.MeasureT-loop
-μ-loop fd image₀ counts₀ done₀ wrong₀ image counts done wrong = 1000000 - done
+μ-loop fd name kind image₀ counts₀ done₀ wrong₀ image counts done wrong = 1000000 - done
 
 pub all-spec : {M : Type 1} → statement M
 all-spec =

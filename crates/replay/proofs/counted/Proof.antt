@@ -6,10 +6,10 @@ use Rattle.replay.proofs.counted.Statement.{statement}
 use Rattle.replay.proofs.counted.Tie as tie
 
 abbrev Inv-loop : tie.InvT-loop
-Inv-loop counts i₀ i = i ≤ length counts
+Inv-loop word counts i₀ i = i ≤ length counts
 
 abbrev μ-loop : tie.MeasureT-loop
-μ-loop counts i₀ i = length counts - i
+μ-loop word counts i₀ i = length counts - i
 
 pub counted-spec : {M : Type 1} → statement M
 counted-spec =

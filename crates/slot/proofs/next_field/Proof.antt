@@ -1,8 +1,8 @@
-use mathlib.Core.Path.{_≡_, sym, ap, _∙_}
+use mathlib.Core.Path.{sym, ap, _∙_}
 use native.Mathlib.Omega.{arith}
 use borrow.Author.Needs.{needs}
 use Rattle.number.specs.Answers.{next, follow}
-use Rattle.slot.proofs.FourBytes.{Bytes, short-bytes, short-reads}
+use Rattle.slot.proofs.FourBytes.{short-bytes, short-reads}
 use Rattle.slot.proofs.next_field.Statement.{statement}
 use Rattle.slot.proofs.next_field.Tie as tie
 

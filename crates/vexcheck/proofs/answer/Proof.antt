@@ -1,7 +1,7 @@
 use native.Mathlib.Omega.{arith}
 use mathlib.Core.Path.{ap}
-use Rattle.vexcheck.specs.Text.{countOf}
-use Rattle.vexcheck.proofs.Texts.{used-within}
+use Rattle.vexcheck.specs.Count.{countOf}
+use Rattle.report.proofs.Texts.{used-within}
 use borrow.Author.Needs.{needs}
 use Rattle.vexcheck.proofs.answer.Statement.{statement}
 use Rattle.vexcheck.proofs.answer.Tie as tie

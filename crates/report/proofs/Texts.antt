@@ -8,7 +8,7 @@ use Rattle.table.proofs.Fitting.{fitted-length}
 use Rattle.lines.specs.Lines.{Holds}
 use Rattle.typeck.specs.Check.{verdictOf, sizeTable, findingTable, Answered}
 use Rattle.typeck.specs.declared.Verdict.{Verdict}
-use Rattle.vexcheck.specs.Text.{textOf, textFor}
+use Rattle.report.specs.Text.{textOf, textFor}
 
 -- a check with places for 512 slots and 1,000 findings
 pub text-is : (s sizes a findings b : List ℕ) (v : Verdict) (p : ℕ) (out : List ℕ) (r : ℕ) → length sizes ≡ 1536 → length findings ≡ 6000

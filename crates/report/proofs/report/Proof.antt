@@ -1,9 +1,9 @@
-use Rattle.vexcheck.proofs.Texts.{text-is}
+use Rattle.report.proofs.Texts.{text-is}
 use lib.ListN.{length-replicate}
 use Prim.Native.Nat.{ℕ}
 use borrow.Author.Needs.{needs}
-use Rattle.vexcheck.proofs.report.Statement.{statement}
-use Rattle.vexcheck.proofs.report.Tie as tie
+use Rattle.report.proofs.report.Statement.{statement}
+use Rattle.report.proofs.report.Tie as tie
 
 pub report-spec : {M : Type 1} → statement M
 report-spec =

@@ -1,7 +1,7 @@
-use Rattle.vexcheck.specs.Text.{textOf}
+use Rattle.report.specs.Text.{textOf}
 use borrow.Author.Needs.{needs}
-use Rattle.vexcheck.proofs.write_verdict.Statement.{statement}
-use Rattle.vexcheck.proofs.write_verdict.Tie as tie
+use Rattle.report.proofs.write_verdict.Statement.{statement}
+use Rattle.report.proofs.write_verdict.Tie as tie
 
 returns : tie.Need-returns
 unfolding textOf

@@ -1,0 +1,25 @@
+// The text that the program writes for an image, put into a buffer that the caller lends.
+use typeck::Verdict;
+ghost use lib.ListN.{length};
+ghost use Rattle.lines.specs.Lines.{Holds};
+ghost use Rattle.report.specs.Text.{textOf, textFor};
+
+fn write_verdict(verdict: Verdict, sizes: &[u64], findings: &[u32], out: &mut [u8]) -> usize
+    ensures { λ r. ⌜ Holds (length (now (out .entry))) (textOf verdict (now (sizes .entry)) (now (findings .entry))) (now (out .exit)) r ⌝ }
+{
+    match verdict {
+        Verdict::Accepted(count) => lines::write_accepted(sizes, findings, count, out),
+        Verdict::Refused(number, place) => lines::write_refused(number as u64, place, out),
+    }
+}
+
+// Checks an image, with places for 512 slots and 1,000 findings, and writes its text. Answers how many bytes of the buffer
+// it takes.
+pub fn report(image: &[u8], out: &mut [u8]) -> usize
+    ensures { λ r. ⌜ Holds (length (now (out .entry))) (textFor (now (image .entry))) (now (out .exit)) r ⌝ }
+{
+    let mut sizes = [0u64; 1536];
+    let mut findings = [0u32; 6000];
+    let verdict = typeck::check(image, &mut sizes, &mut findings);
+    write_verdict(verdict, &sizes, &findings, out)
+}

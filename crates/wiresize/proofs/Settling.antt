@@ -1,0 +1,108 @@
+-- Fields that are settled before names are. Assumes nothing.
+use Prim.Native.Nat.{ℕ, _+_}
+use mathlib.Core.Path.{_≡_, refl, sym, ap, subst, _∙_}
+use mathlib.Core.List.{List}
+use native.Mathlib.Omega.{arith}
+use lib.ListN.{getD}
+use Rattle.number.specs.Grammar.{done, read}
+use Rattle.number.proofs.Reading.{given}
+use Rattle.tree.specs.Tree.{Tree, Leaf, leaf, leafKind, leafNumber}
+use Rattle.slot.specs.Field.{typeAt, fieldAt, Field}
+use Rattle.slot.specs.Short.{shortAt, shortEncoding, shortLeaf, shortField}
+use Rattle.slot.specs.declared.Short.{Short}
+use Rattle.slot.proofs.FourBytes.{short-bytes, type-reads, short-reads, short-kind, short-number}
+use Rattle.sizes.specs.Sizes.{Resolver, leafSize, typeSize, encodedSize, fieldSize, varintEnd, zigZagEnd}
+use Rattle.sizes.specs.declared.Size.{Size}
+use Rattle.sizes.specs.declared.Size.the-variants.{Bounded}
+use Rattle.sizes.specs.declared.Worked.the-variants.{Sized}
+use Rattle.measures.specs.Heads.{kindOf, numberOf}
+use Rattle.view.proofs.Places.{at-place}
+use Rattle.wiresize.specs.Steps.{Passed, Coding, Settles}
+use Rattle.wiresize.specs.declared.Coded.{Coded}
+use Rattle.wiresize.specs.declared.Settled.{Settled}
+use Rattle.wiresize.specs.declared.Walked.{Walked}
+use Rattle.wiresize.proofs.Typing.{plain-is, varint-is, zigzag-is}
+
+-- by the encoding that governs
+module _ (names : ℕ) (s : List ℕ) (at : ℕ) (r : Coded) (f : (x : Field) (end : ℕ) → read (fieldAt names) s at ≡ done x end → Coding names s x end r) (p : ℕ) where
+  pub at-type : r ≡ Coded.Plain p → Settles names s at (Settled.At p)
+  unfolding Settles fieldSize
+  at-type e x end q =
+      let k = f x end q in
+      let g = plain-is _ (sym e ∙ k .coded) in
+      (at-place _ _ (k .reads) (g .place), λ R. g .same R _)
+
+  pub by-varint : r ≡ Coded.Varint p → (w : Walked) → Passed names s p (λ t. Sized (Bounded 8 (varintEnd t))) w → Settles names s at (Settled.Is w)
+  unfolding Settles fieldSize
+  by-varint e w h x end q =
+      let k = f x end q in
+      let g = varint-is _ (sym e ∙ k .coded) in
+      let a = h .passed _ _ (at-place _ _ (k .reads) (g .place)) in
+      (a .1, λ R. a .0 ∙ g .same R _)
+
+  pub by-zigzag : r ≡ Coded.ZigZag p → (w : Walked) → Passed names s p (λ t. Sized (Bounded 8 (zigZagEnd t))) w → Settles names s at (Settled.Is w)
+  unfolding Settles fieldSize
+  by-zigzag e w h x end q =
+      let k = f x end q in
+      let g = zigzag-is _ (sym e ∙ k .coded) in
+      let a = h .passed _ _ (at-place _ _ (k .reads) (g .place)) in
+      (a .1, λ R. a .0 ∙ g .same R _)
+
+-- by four bytes
+module _ (names : ℕ) (s : List ℕ) (at e k v : ℕ) (h : shortAt names s at ≡ Short.Is e k v) where
+  abbrev own : Field
+  own = shortField (getD s at 0) e k v
+
+  abbrev type : Tree
+  type = leaf (shortLeaf k v)
+
+  is-own : (x : Field) (end : ℕ) → read (fieldAt names) s at ≡ done x end → (own ≡ x) × (at + 4 ≡ end)
+  is-own x end q = given (sym (short-reads names s at e k v h) ∙ q)
+
+  by-size : (z : Size) (n : ℕ) → n ≡ at + 4 → ((R : Resolver) → Sized z ≡ encodedSize R (shortEncoding e) type) → Settles names s at (Settled.Is record { worked = Sized z; next = n })
+  unfolding Settles fieldSize
+  by-size z n m f x end q = let g = is-own x end q in (m ∙ g .1, λ R. f R ∙ ap (fieldSize R) (g .0))
+
+  pub short-leaf : e ≡ 0 → (k ≡ 3 → ⊥) → (z : Size) → ((R : Resolver) (l : Leaf) → leafKind l ≡ k → leafNumber l ≡ v → (k ≡ 3 → ⊥) → Sized z ≡ leafSize R l) → (n : ℕ) → n ≡ at + 4
+      → Settles names s at (Settled.Is record { worked = Sized z; next = n })
+  unfolding encodedSize typeSize
+  short-leaf i not z f n m =
+      by-size z n m (λ R. f R (shortLeaf k v) (short-kind names s at e k v h) (short-number names s at e k v h) not ∙ subst (λ (j : ℕ). typeSize R type ≡ encodedSize R (shortEncoding j) type) (sym i) refl)
+
+  pub short-varint : e ≡ 1 → (z : Size) → ((t : Tree) → kindOf t ≡ k → numberOf t ≡ v → z ≡ Bounded 8 (varintEnd t)) → (n : ℕ) → n ≡ at + 4
+      → Settles names s at (Settled.Is record { worked = Sized z; next = n })
+  unfolding encodedSize
+  short-varint i z f n m =
+      by-size z n m (λ R. ap Sized (f type (short-kind names s at e k v h) (short-number names s at e k v h)) ∙ subst (λ (j : ℕ). Sized (Bounded 8 (varintEnd type)) ≡ encodedSize R (shortEncoding j) type) (sym i) refl)
+
+  pub short-zigzag : (e ≡ 0 → ⊥) → (e ≡ 1 → ⊥) → (z : Size) → ((t : Tree) → kindOf t ≡ k → numberOf t ≡ v → z ≡ Bounded 8 (zigZagEnd t)) → (n : ℕ) → n ≡ at + 4
+      → Settles names s at (Settled.Is record { worked = Sized z; next = n })
+  unfolding encodedSize
+  short-zigzag a b z f n m =
+      let i : e ≡ 2 = omega (arith, short-bytes names s at e k v h .coded) in
+      by-size z n m (λ R. ap Sized (f type (short-kind names s at e k v h) (short-number names s at e k v h)) ∙ subst (λ (j : ℕ). Sized (Bounded 8 (zigZagEnd type)) ≡ encodedSize R (shortEncoding j) type) (sym i) refl)
+
+  pub short-name : e ≡ 0 → (p : ℕ) → p ≡ at + 2 → Settles names s at (Settled.At p)
+  unfolding Settles fieldSize encodedSize
+  short-name i p m x end q =
+      let g = is-own x end q in (
+        ap (read (typeAt names) s) m
+            ∙ type-reads names s at e k v h
+            ∙ ap (λ (y : Field). done (y .type) (at + 4)) (g .0)
+            ∙ ap (done (x .type)) (g .1),
+        λ R.
+            ap (λ (y : Field). typeSize R (y .type)) (sym (g .0))
+            ∙ subst (λ (j : ℕ). typeSize R type ≡ encodedSize R (shortEncoding j) type) (sym i) refl
+            ∙ ap (fieldSize R) (g .0),
+      )
+
+-- what was settled, once it was matched
+module _ (names : ℕ) (s : List ℕ) (at : ℕ) (r : Settled) (h : Settles names s at r) where
+  pub is-settled : (w : Walked) → r ≡ Settled.Is w → (x : Field) (end : ℕ) → read (fieldAt names) s at ≡ done x end → (w .next ≡ end) × ((R : Resolver) → w .worked ≡ fieldSize R x)
+  unfolding Settles
+  is-settled w e = subst (Settles names s at) e h
+
+  pub at-settled : (p : ℕ) → r ≡ Settled.At p → (x : Field) (end : ℕ) → read (fieldAt names) s at ≡ done x end
+      → (read (typeAt names) s p ≡ done (x .type) end) × ((R : Resolver) → typeSize R (x .type) ≡ fieldSize R x)
+  unfolding Settles
+  at-settled p e = subst (Settles names s at) e h

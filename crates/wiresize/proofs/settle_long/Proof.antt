@@ -1,0 +1,18 @@
+use borrow.Author.Needs.{needs}
+use Rattle.wiresize.proofs.Settling.{at-type, by-varint, by-zigzag}
+use Rattle.wiresize.proofs.settle_long.Statement.{statement}
+use Rattle.wiresize.proofs.settle_long.Tie as tie
+
+pub settle-long-spec : {M : Type 1} → statement M
+settle-long-spec =
+    tie.close
+    (tie.spec
+    (λ c κs. search needs)
+    (λ c. search needs)
+    (λ c. search needs)
+    (λ c κs. search needs)
+    (λ c. search needs)
+    (λ c κs. search needs)
+    (λ c. at-type _ _ _ _ (c .before .before .before .field-type .ensures) _ (c .before .p .given .1))
+    (λ c. by-varint _ _ _ _ (c .before .before .before .before .field-type .ensures) _ (c .before .before .p2 .given .1) _ (c .varint-type .ensures))
+    (λ c. by-zigzag _ _ _ _ (c .before .before .before .before .field-type .ensures) _ (c .before .before .p3 .given .1) _ (c .zigzag-type .ensures)))
