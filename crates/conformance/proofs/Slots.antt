@@ -14,7 +14,7 @@ use Rattle.image.specs.declared.Frame.{Frame}
 use Rattle.reader.specs.Reading.{schemaOf}
 use Rattle.view.specs.Part.{partAt}
 use Rattle.view.specs.declared.Part.{Part}
-use Rattle.view.proofs.Fetching.{Behind, part-behind, not-missing}
+use Rattle.view.proofs.Fetching.{Behind, part-behind, not-missing, body-at}
 use Rattle.findings.specs.Meaning.{slotFound}
 use Rattle.findings.specs.Conformance.{conforming, onTrait, implFindings, conformanceOf}
 use Rattle.findings.specs.declared.Finding.{Finding}
@@ -89,7 +89,7 @@ module _ (s starts : List ℕ) (f : Frame) (slot held : ℕ) (a : SlotAsked s st
           module _ (k : kind ≡ 8) (e : TraitDef) (tells : (y : Trait) (end : ℕ) → read (traitAt (f .names)) s place ≡ done y end → TraitIs (f .names) s e y) where
             held-trait : Made trait (traitAt (f .names)) s place (slotOf (schemaOf s) (d .«trait_id» - 1)) (its-part .end)
             unfolding slotBodyAt
-            held-trait = made-of s trait (traitAt (f .names)) place _ _ (ap (λ (n : ℕ). read (slotBodyAt (f .names) n) s place) (sym k) ∙ its-part .reads)
+            held-trait = made-of s trait (traitAt (f .names)) place _ _ (body-at its-part 8 k)
 
             pub paired : Paired s starts f d e held
             paired =

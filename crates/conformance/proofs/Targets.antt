@@ -6,7 +6,6 @@ use mathlib.Core.Bool.{false, cond}
 use native.Mathlib.Omega.{arith}
 use lib.ListN.{length, List·getD-eq-default}
 use borrow.Author.Tests.{eq-eqb, ne-eqb}
-use Rattle.number.specs.Grammar.{read}
 use Rattle.number.proofs.Reading.{many-length}
 use Rattle.slot.specs.Field.{typeAt, Span}
 use Rattle.slot.specs.Slot.{Slot, empty, message, messageAt, enum, flags, union, newtype, config, alias, Trait, trait, Impl, impl, slotKind, slotBodyAt}
@@ -17,7 +16,7 @@ use Rattle.reader.specs.Reading.{schemaOf}
 use Rattle.reader.specs.Promise.{Promise}
 use Rattle.view.specs.Part.{partAt}
 use Rattle.view.specs.declared.Part.{Part}
-use Rattle.view.proofs.Fetching.{Behind, part-behind, not-missing}
+use Rattle.view.proofs.Fetching.{Behind, part-behind, not-missing, body-at}
 use Rattle.findings.specs.Finding.{finding}
 use Rattle.findings.specs.Conformance.{onTarget, onValue, spanOr, lacking, conforming, onTrait, implFindings}
 use Rattle.findings.specs.declared.Finding.{Finding}
@@ -114,7 +113,7 @@ module _ (s starts : List ℕ) (f : Frame) (d : ImplDef) (e : TraitDef) (slot he
 
           held-message : kind ≡ 1 → (a : Paired s starts f d e held) → Made message (messageAt (f .names)) s body (slotOf (schemaOf s) j) (behind a .end)
           unfolding slotBodyAt
-          held-message k a = made-of s message (messageAt (f .names)) body _ _ (ap (λ (n : ℕ). read (slotBodyAt (f .names) n) s body) (sym k) ∙ behind a .reads)
+          held-message k a = made-of s message (messageAt (f .names)) body _ _ (body-at (behind a) 1 k)
 
           pub targeted : kind ≡ 1 → Paired s starts f d e held → Targeted s starts f d e body held
           targeted k a = let m = held-message k a in record { paired = a; message = m .held; end = behind a .end; reads = m .reads }

@@ -6,7 +6,7 @@ use mathlib.Core.Bool.{Bool, true, false, cond, true≢false}
 use native.Mathlib.Omega.{arith}
 use lib.Dec.{eqb, ltb}
 use lib.ListN.{length, length-append}
-use Rattle.number.specs.Grammar.{Role, kind, name, slot, count, value, Grammar, give, take, _>>=_, number, many, counted, nested, tooDeep, done, refused, below, read}
+use Rattle.number.specs.Grammar.{Role, kind, slot, count, value, Grammar, give, take, _>>=_, number, many, counted, nested, tooDeep, done, refused, below, read}
 use Rattle.number.proofs.Reading.{read-done, read-number, then-done, given, front}
 use Rattle.number.proofs.InRange.{below-is}
 use Rattle.tree.specs.Tree.{Tree, Leaf, leafKind, leafNumber}
@@ -16,7 +16,7 @@ use Rattle.tree.specs.declared.Sort.the-variants.{Resolved}
 use Rattle.tree.proofs.Ranges.{each}
 use Rattle.slot.specs.Field.{typeAt, spanAt, storedAt, fieldAt, fieldsAt}
 use Rattle.slot.specs.Slot.{Slot, empty, message, enum, flags, union, newtype, config, alias, trait, impl, slotKind, Message, messageAt, Union, unionAt, Newtype, newtypeAt, slotBodyAt, slotAt}
-use Rattle.slot.proofs.Whole.{made-of, slot-parts}
+use Rattle.slot.proofs.Whole.{made-of, slot-parts, field-parts}
 use Rattle.view.proofs.Onward.{goes-on}
 use Rattle.parts.specs.Names.{allOf, leafNames, typeNames, fieldNames, variantNames, slotNames}
 use Rattle.parts.specs.Lists.{levelsAt}
@@ -150,13 +150,9 @@ module _ (s : List ℕ) where
   -- ## Slots
 
   field-bytes : (names top : ℕ) → Costs s (fieldAt names) (fieldNames top)
-  unfolding fieldAt read
   field-bytes names top at x end e =
-      let u = read-done (number name names) _ s at x end e in
-      let v = read-done (encodingAt 32) _ s (u .middle) x end (u .rest) in
-      let w = read-done (typeAt names) _ s (v .middle) x end (v .rest) in
-      let g = given (w .rest) in
-      rw (← g .0) (omega (arith, goes-on (number name names) s at (u .here) .forward, goes-on (encodingAt 32) s (u .middle) (v .here) .forward, type-bytes names 32 top (v .middle) (w .first) (w .middle) (w .here), g .1))
+      let p = field-parts s names at x end e in
+      omega (arith, below-is s at names (x .fieldName) (p .coded) (p .nameRead) .after, goes-on (encodingAt 32) s (p .coded) (p .encodingRead) .forward, type-bytes names 32 top (p .typed) (x .type) end (p .typeRead))
 
   fields-bytes : (names top : ℕ) → Costs s (fieldsAt names) (allOf (fieldNames top))
   fields-bytes names top = counted-bytes (fieldAt names) (fieldNames top) (field-bytes names top)

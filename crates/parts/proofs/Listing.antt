@@ -1,15 +1,15 @@
 -- Names listed by the shape of a head, and one thing after another. Assumes nothing.
 use Prim.Native.Nat.{ℕ, suc, _+_, _*_, _-_, _^_, _<_, _≤_}
-use mathlib.Core.Path.{_≡_, refl, sym, ap, ap₂, subst, _∙_}
+use mathlib.Core.Path.{_≡_, refl, sym, ap, ap₂, _∙_}
 use mathlib.Core.List.{List, [], _∷_, _++_}
 use native.Mathlib.Omega.{arith}
 use mathlib.Core.Bool.{Bool}
 use lib.ListN.{set, length}
 use borrow.Author.Tests.{eq-eqb, ne-eqb, lt-ltb, le-ltb}
-use Rattle.number.specs.Grammar.{name, Grammar, _>>=_, number, many, counted, tooDeep, done, refused, below, read}
+use Rattle.number.specs.Grammar.{Grammar, _>>=_, many, counted, tooDeep, done, refused, below, read}
 use Rattle.number.specs.Answers.{next, follow}
 use Rattle.number.specs.declared.Next.{Next}
-use Rattle.number.proofs.Reading.{read-done, read-number, then-done, given, not-done, next-at, front, counted-on, counted-refused, follow-on}
+use Rattle.number.proofs.Reading.{then-done, given, not-done, next-at, front, counted-on, counted-refused}
 use Rattle.tree.specs.Tree.{Tree}
 use Rattle.tree.specs.TreeAt.{kindsOf, headAt, shape}
 use Rattle.tree.specs.Encoding.{encodingAt}
@@ -17,10 +17,10 @@ use Rattle.tree.specs.declared.Sort.the-variants.{Resolved}
 use Rattle.tree.specs.declared.Head.{Head}
 use Rattle.tree.proofs.Shapes.{tree-deep, parts}
 use Rattle.slot.specs.Field.{typeAt, Field, fieldAt, fieldsAt}
-use Rattle.slot.specs.Slot.{Slot, empty, message, enum, flags, union, newtype, config, alias, trait, impl, slotKind, Message, messageAt, Union, unionAt, Newtype, newtypeAt, slotBodyAt}
+use Rattle.slot.specs.Slot.{Slot, empty, message, enum, flags, union, newtype, config, alias, trait, impl, slotKind, Message, messageAt, Union, unionAt, newtypeAt, slotBodyAt}
 use Rattle.slot.proofs.Whole.{made-of}
-use Rattle.view.proofs.Places.{at-same, at-not}
-use Rattle.view.proofs.Fetching.{Behind}
+use Rattle.view.proofs.Places.{at-same, at-not, inner-stands, type-stands}
+use Rattle.view.proofs.Fetching.{Behind, body-at}
 use Rattle.parts.specs.Names.{allOf, leafNames, typeNames, fieldNames, variantNames, slotNames, isMessage}
 use Rattle.parts.specs.Lists.{Filled, filled, push, pushAll, levelsAt, Lists, ListsSlot}
 
@@ -146,29 +146,14 @@ module _ (names : ℕ) (s : List ℕ) (at levels top : ℕ) (x : Filled) where
 -- ## A field
 
 module _ (names : ℕ) (s : List ℕ) (at : ℕ) where
-  field-stands : (x : Field) (end : ℕ) → read (fieldAt names) s at ≡ done x end → (a b : Next)
-      → a ≡ next (below names s at) → b ≡ follow a (λ n. next (read (encodingAt 32) s n))
-      → (k : ℕ) × (b ≡ Next.At k) × (read (typeAt names) s k ≡ done (x .type) end)
-  unfolding fieldAt read
-  field-stands x end e a b p q =
-      let u = read-done (number name names) _ s at x end e in
-      let v = read-done (encodingAt 32) _ s (u .middle) x end (u .rest) in
-      let w = read-done (typeAt names) _ s (v .middle) x end (v .rest) in
-      let g = given (w .rest) in
-      let f : a ≡ Next.At (u .middle) = p ∙ ap next (sym (read-number name names s at) ∙ u .here) in (
-        v .middle,
-        q ∙ follow-on a _ (u .middle) f ∙ ap next (v .here),
-        w .here ∙ ap (λ (y : Field). done (y .type) (w .middle)) (g .0) ∙ ap (done (x .type)) (g .1),
-      )
-
   module _ (a b : Next) (p : a ≡ next (below names s at)) (q : b ≡ follow a (λ n. next (read (encodingAt 32) s n))) where
     pub type-at : (k : ℕ) → b ≡ Next.At k → (x : Field) (end : ℕ) → read (fieldAt names) s at ≡ done x end → read (typeAt names) s k ≡ done (x .type) end
     type-at k e x end r =
-        let w = field-stands x end r a b p q in
+        let w = type-stands s names at x end r a b p q in
         ap (read (typeAt names) s) (at-same e (w .1)) ∙ w .2
 
     pub type-not : (r i k : ℕ) → b ≡ Next.Refused r i → (x : Field) (end : ℕ) → read (fieldAt names) s at ≡ done x end → read (typeAt names) s k ≡ done (x .type) end
-    type-not r i k e x end f = absurd (at-not e (field-stands x end f a b p q .1))
+    type-not r i k e x end f = absurd (at-not e (type-stands s names at x end f a b p q .1))
 
   -- a field, from where its type stands
   pub list-field : (top p n : ℕ) (x y : Filled) → ((f : Field) (end : ℕ) → read (fieldAt names) s at ≡ done f end → read (typeAt names) s p ≡ done (f .type) end)
@@ -227,15 +212,12 @@ module _ {A : Type 0} (g : Grammar A) (f : A → List ℕ) (s : List ℕ) where
 -- ## A slot
 
 module _ (names : ℕ) (s : List ℕ) (x : Slot) (kind body : ℕ) (b : Behind names s x kind body) (t : Filled) where
-  body-at : (k : ℕ) → kind ≡ k → read (slotBodyAt names k) s body ≡ done x (b .end)
-  body-at k e = subst (λ (j : ℕ). read (slotBodyAt names j) s body ≡ done x (b .end)) e (b .reads)
-
   pub list-message : kind ≡ 1 → (p n : ℕ) (y : Filled)
       → ((names : ℕ) (m : Message) (end : ℕ) → read (messageAt names) s body ≡ done m end → read (fieldsAt names) s p ≡ done (m .fields) end)
       → Lists (fieldsAt names) (allOf (fieldNames 1)) s p t y n → ListsSlot x t y Bool.true
   unfolding slotBodyAt slotNames
   list-message e p n y w i =
-      let m = made-of s message (messageAt names) body x (b .end) (body-at 1 e) in
+      let m = made-of s message (messageAt names) body x (b .end) (body-at b 1 e) in
       record {
         listed = i .listed (m .held .fields) (b .end) (w names (m .held) (b .end) (m .reads)) .0 ∙ sym (ap (λ (z : Slot). pushAll (slotNames z) t) (m .slotIs));
         marked = sym (ap isMessage (m .slotIs));
@@ -246,21 +228,19 @@ module _ (names : ℕ) (s : List ℕ) (x : Slot) (kind body : ℕ) (b : Behind n
       → Lists (counted (fieldsAt names)) (allOf variantNames) s p t y n → ListsSlot x t y Bool.false
   unfolding slotBodyAt slotNames
   list-union e p n y w i =
-      let m = made-of s union (unionAt names) body x (b .end) (body-at 4 e) in
+      let m = made-of s union (unionAt names) body x (b .end) (body-at b 4 e) in
       record {
         listed = i .listed (m .held .variants) (b .end) (w names (m .held) (b .end) (m .reads)) .0 ∙ sym (ap (λ (z : Slot). pushAll (slotNames z) t) (m .slotIs));
         marked = sym (ap isMessage (m .slotIs));
       }
 
   pub list-newtype : kind ≡ 5 → (n : ℕ) (y : Filled) → Lists (levelsAt names 32) (typeNames 1) s body t y n → ListsSlot x t y Bool.false
-  unfolding slotBodyAt slotNames newtypeAt read
+  unfolding slotBodyAt slotNames
   list-newtype e n y i =
-      let m = made-of s newtype (newtypeAt names) body x (b .end) (body-at 5 e) in
-      let a = read-done (typeAt names) _ s body (m .held) (b .end) (m .reads) in
-      let d = read-done (typeAt names) _ s (a .middle) (m .held) (b .end) (a .rest) in
-      let k : a .first ≡ m .held .inner = ap (λ (z : Newtype). z .inner) (given (d .rest) .0) in
+      let m = made-of s newtype (newtypeAt names) body x (b .end) (body-at b 5 e) in
+      let k = inner-stands s names body (m .held) (b .end) (m .reads) in
       record {
-        listed = i .listed (a .first) (a .middle) (a .here) .0 ∙ ap (λ (z : Tree). pushAll (typeNames 1 z) t) k ∙ sym (ap (λ (z : Slot). pushAll (slotNames z) t) (m .slotIs));
+        listed = i .listed (m .held .inner) (k .0) (k .1) .0 ∙ sym (ap (λ (z : Slot). pushAll (slotNames z) t) (m .slotIs));
         marked = sym (ap isMessage (m .slotIs));
       }
 

@@ -5,15 +5,15 @@ use mathlib.Core.List.{List, _∷_}
 use mathlib.Core.Bool.{Bool, true, false, cond}
 use native.Mathlib.Omega.{arith}
 use borrow.Author.Tests.{eq-eqb, ne-eqb}
-use Rattle.number.specs.Grammar as gr
-use Rattle.number.specs.Grammar.{number, many, done, refused, below, read}
+use Rattle.number.specs.Grammar.{many, done, refused, below, read}
 use Rattle.number.specs.Answers.{next}
 use Rattle.number.specs.declared.Next.{Next}
-use Rattle.number.proofs.Reading.{read-done, read-number, given, not-done, front}
+use Rattle.number.proofs.Reading.{given, not-done, front}
 use Rattle.tree.specs.Tree.{Tree}
 use Rattle.tree.specs.Encoding.{encodingAt}
 use Rattle.tree.specs.declared.Sort.the-variants.{Expression}
 use Rattle.slot.specs.Field.{typeAt, Field, fieldAt}
+use Rattle.slot.proofs.Whole.{field-parts}
 use Rattle.image.specs.declared.Frame.{Frame}
 use Rattle.view.proofs.Places.{at-same, at-not, at-place}
 use Rattle.findings.specs.Conformance.{isField, hasField}
@@ -23,42 +23,19 @@ use Rattle.matching.proofs.Equality.{says-true, says-false}
 use Rattle.search.specs.Search.{Expressed, meaningIn, Heads, FieldAsked, IsField, SearchAsked, HasField}
 use Rattle.search.specs.declared.FieldHead.{FieldHead}
 
--- the parts of a field
-record FieldParts (names : ℕ) (s : List ℕ) (at : ℕ) (x : Field) (end : ℕ) : Type 0 where
-  afterName : ℕ
-  nameRead : below names s at ≡ done (x .fieldName) afterName
-  place : ℕ
-  encodingNext : next (read (encodingAt 32) s afterName) ≡ Next.At place
-  typeRead : read (typeAt names) s place ≡ done (x .type) end
-
-field-parts : (names : ℕ) (s : List ℕ) (at : ℕ) (x : Field) (end : ℕ) → read (fieldAt names) s at ≡ done x end → FieldParts names s at x end
-unfolding fieldAt read
-field-parts names s at x end e =
-    let a = read-done (number gr.name names) _ s at x end e in
-    let b = read-done (encodingAt 32) _ s (a .middle) x end (a .rest) in
-    let c = read-done (typeAt names) _ s (b .middle) x end (b .rest) in
-    let g = given (c .rest) in
-    record {
-      afterName = a .middle;
-      nameRead = sym (read-number gr.name names s at) ∙ a .here ∙ ap (λ (y : Field). done (y .fieldName) (a .middle)) (g .0);
-      place = b .middle;
-      encodingNext = ap next (b .here);
-      typeRead = c .here ∙ ap (λ (y : Field). done (y .type) (c .middle)) (g .0) ∙ ap (done (x .type)) (g .1);
-    }
-
 module _ (names : ℕ) (s : List ℕ) (at : ℕ) where
   pub head-cut : (r p : ℕ) → below names s at ≡ refused r p → (h : FieldHead) → Heads names s at h
-  head-cut r p e h x end q = absurd (not-done e (field-parts names s at x end q .nameRead))
+  head-cut r p e h x end q = absurd (not-done e (field-parts s names at x end q .nameRead))
 
   module _ (v n : ℕ) (e : below names s at ≡ done v n) where
-    encoding-at : (x : Field) (end : ℕ) (q : read (fieldAt names) s at ≡ done x end) → next (read (encodingAt 32) s n) ≡ Next.At (field-parts names s at x end q .place)
+    encoding-at : (x : Field) (end : ℕ) (q : read (fieldAt names) s at ≡ done x end) → next (read (encodingAt 32) s n) ≡ Next.At (field-parts s names at x end q .typed)
     encoding-at x end q =
-        let f = field-parts names s at x end q in
-        ap (λ (m : ℕ). next (read (encodingAt 32) s m)) (given (sym e ∙ f .nameRead) .1) ∙ f .encodingNext
+        let f = field-parts s names at x end q in
+        ap (λ (m : ℕ). next (read (encodingAt 32) s m)) (given (sym e ∙ f .nameRead) .1) ∙ ap next (f .encodingRead)
 
     pub head-is : (p : ℕ) → Next.At p ≡ next (read (encodingAt 32) s n) → Heads names s at (record { name = v; place = p })
     head-is p u x end q =
-        let f = field-parts names s at x end q in
+        let f = field-parts s names at x end q in
         (given (sym (f .nameRead) ∙ e) .0, at-place (typeAt names) s (f .typeRead) (at-same (sym u) (encoding-at x end q)))
 
     pub encoding-cut : (r p : ℕ) → Next.Refused r p ≡ next (read (encodingAt 32) s n) → (h : FieldHead) → Heads names s at h

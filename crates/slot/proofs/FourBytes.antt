@@ -1,7 +1,7 @@
 -- Fields of four bytes read as fields. Assumes nothing.
 use Prim.Native.Nat.{ℕ, _+_, _^_, _<_, _≤_}
 use mathlib.Core.Path.{_≡_, refl, sym, ap, _∙_}
-use mathlib.Core.List.{List, [], _∷_}
+use mathlib.Core.List.{List}
 use mathlib.Core.Bool.{Bool, true, false, cond}
 use native.Mathlib.Omega.{arith}
 use lib.Dec.{ltb}
@@ -17,7 +17,7 @@ use Rattle.tree.specs.declared.Sort.the-variants.{Resolved}
 use Rattle.tree.proofs.Ranges.{each}
 use Rattle.tree.proofs.Levels.{nested-on}
 use Rattle.slot.specs.Field.{typeAt, fieldAt}
-use Rattle.slot.specs.Short.{shortLimit, shortOf, shortAt, shortEncoding, shortLeaf, shortField}
+use Rattle.slot.specs.Short.{shortLimits, shortLimit, shortOf, shortAt, shortEncoding, shortLeaf, shortField}
 use Rattle.slot.specs.declared.Short.{Short}
 
 -- what is known of the four bytes
@@ -49,7 +49,7 @@ bytes-of names n e k v x y z h = go (ltb n 128) (ltb n names) (ltb e 3) (ltb v (
 
 pub short-past : (k : ℕ) → 4 ≤ k → 0 ≡ shortLimit k
 unfolding shortLimit
-short-past k h = sym (List·getD-eq-default {A = ℕ} (14 ∷ 0 ∷ 6 ∷ 128 ∷ []) 0 {n = k} h)
+short-past k h = sym (List·getD-eq-default shortLimits 0 {n = k} h)
 
 -- kinds that have a limit
 limited : (k v : ℕ) → v < shortLimit k → k < 4

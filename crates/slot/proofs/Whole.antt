@@ -1,12 +1,14 @@
--- A slot that was read whole: its kind, and what the kind holds. Assumes nothing.
+-- A slot that was read whole: its kind, and what the kind holds; and a field that was. Assumes nothing.
 use Prim.Native.Nat.{ℕ, _<_}
 use mathlib.Core.Path.{_≡_, refl, sym, ap, subst, _∙_}
 use mathlib.Core.List.{List}
 use native.Mathlib.Omega.{arith}
-use Rattle.number.specs.Grammar.{kind, Grammar, give, number, done, below, read}
+use Rattle.number.specs.Grammar.{kind, name, Grammar, give, number, done, below, read}
 use Rattle.number.proofs.Reading.{read-done, read-number, given}
 use Rattle.number.proofs.InRange.{below-is}
+use Rattle.tree.specs.Encoding.{encodingAt}
 use Rattle.tree.proofs.Ranges.{each}
+use Rattle.slot.specs.Field.{typeAt, Field, fieldAt}
 use Rattle.slot.specs.Slot.{Slot, message, enum, flags, union, newtype, alias, trait, impl, slotKind, messageAt, enumAt, flagsAt, unionAt, newtypeAt, aliasAt, traitAt, implAt, made, slotBodyAt, slotAt}
 
 -- what a slot of one kind holds
@@ -72,4 +74,27 @@ module _ (s : List ℕ) where
         body = a .middle;
         kindRead = b ∙ ap (λ (k : ℕ). done k (a .middle)) (sym q);
         bodyRead = subst (λ (k : ℕ). read (slotBodyAt names k) s (a .middle) ≡ done x end) (sym q) (a .rest);
+      }
+
+  -- a field: its name, its encoding and its type
+  pub record FieldParts (names at : ℕ) (x : Field) (end : ℕ) : Type 0 where
+    pub coded : ℕ
+    pub nameRead : below names s at ≡ done (x .fieldName) coded
+    pub typed : ℕ
+    pub encodingRead : read (encodingAt 32) s coded ≡ done (x .encoding) typed
+    pub typeRead : read (typeAt names) s typed ≡ done (x .type) end
+
+  pub field-parts : (names at : ℕ) (x : Field) (end : ℕ) → read (fieldAt names) s at ≡ done x end → FieldParts names at x end
+  unfolding fieldAt read
+  field-parts names at x end e =
+      let u = read-done (number name names) _ s at x end e in
+      let v = read-done (encodingAt 32) _ s (u .middle) x end (u .rest) in
+      let w = read-done (typeAt names) _ s (v .middle) x end (v .rest) in
+      let g = given (w .rest) in
+      record {
+        coded = u .middle;
+        nameRead = sym (read-number name names s at) ∙ u .here ∙ ap (λ (y : Field). done (y .fieldName) (u .middle)) (g .0);
+        typed = v .middle;
+        encodingRead = v .here ∙ ap (λ (y : Field). done (y .encoding) (v .middle)) (g .0);
+        typeRead = w .here ∙ ap (λ (y : Field). done (y .type) (w .middle)) (g .0) ∙ ap (done (x .type)) (g .1);
       }

@@ -9,9 +9,13 @@ use Rattle.tree.specs.Encoding.{Encoding, default, varint, zigZag}
 use Rattle.slot.specs.Field.{Field}
 use Rattle.slot.specs.declared.Short.{Short}
 
--- what the number of a kind is below, as far as a byte goes: primitives, semantic types and names; 0 for the other kinds
+-- what the number of a kind is below, as far as a byte goes, from kind 0 on: primitives, semantic types and names; 0 for kinds
+-- that hold something else
+abbrev pub shortLimits : List ℕ
+shortLimits = 14 ∷ 0 ∷ 6 ∷ 128 ∷ []
+
 unfoldable pub shortLimit : (kind : ℕ) → ℕ
-shortLimit k = getD (14 ∷ 0 ∷ 6 ∷ 128 ∷ []) k 0
+shortLimit k = getD shortLimits k 0
 
 unfoldable pub shortOf : (name encoding kind number : ℕ) → (names : ℕ) → Short
 shortOf n e k v names =

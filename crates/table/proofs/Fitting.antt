@@ -1,11 +1,11 @@
--- A table written into one of another length. Assumes nothing.
+-- Lists in tables. Assumes nothing.
 use Prim.Native.Nat.{ℕ, zero, suc, _+_, _-_, _≤_, _<_}
 use mathlib.Core.Path.{_≡_, refl, sym, ap, _∙_}
-use mathlib.Core.List.{List, [], _∷_, _++_}
+use mathlib.Core.List.{List, [], _∷_, _++_, append-assoc, append-nil}
 use mathlib.Core.Logic.{by-cases}
 use native.Mathlib.Omega.{arith}
 use native.Mathlib.Decide.{decLt, ℕ-discrete}
-use lib.ListN.{length, getD, set, drop, replicate, length-set, length-replicate, List·getD-append, List·getD-eq-default}
+use lib.ListN.{length, getD, set, drop, replicate, length-set, length-replicate, length-append, List·getD-append, List·getD-eq-default}
 use lib.Seq.{sets, sets-eq, ext-getD, getD-set-same, getD-set-other, getD-append-add, getD-drop}
 use Rattle.table.specs.Fitted.{fitted}
 
@@ -69,15 +69,6 @@ written-at n t h i =
         ∙ getD-drop (0 + length t) (replicate n 0) (j - length t) 0
         ∙ zeros-at n _
 
-fitted-same : (n : ℕ) (l m : List ℕ) → ((i : ℕ) → getD l i 0 ≡ getD m i 0) → fitted n l ≡ fitted n m
-fitted-same n l m h =
-    ext-getD 0 (fitted n l) (fitted n m) (fitted-length n l ∙ sym (fitted-length n m))
-    (λ i k. let q : i < n = omega (arith, fitted-length n l) in fitted-at n l i q ∙ h i ∙ sym (fitted-at n m i q))
-
--- a table that was written into zeros, in one of another length
-pub fitted-written : (places n : ℕ) (t : List ℕ) → length t ≤ n → fitted places (sets (replicate n 0) 0 t) ≡ fitted places t
-fitted-written places n t h = fitted-same places _ t (written-at n t h)
-
 -- with room for all of it, the list is its front
 pub fitted-front : (n : ℕ) (l : List ℕ) → length l ≤ n → (rest : List ℕ) × (fitted n l ≡ l ++ rest)
 unfolding fitted
@@ -91,3 +82,12 @@ unfolding fitted
 fitted-next zero l v = refl
 fitted-next (suc n) [] v = refl
 fitted-next (suc n) (x ∷ l) v = ap (λ (k : List ℕ). x ∷ k) (fitted-next n l v)
+
+-- a table that holds a list, written on
+pub written-on : (n : ℕ) (l t : List ℕ) → sets (fitted n l) (length l) t ≡ fitted n (l ++ t)
+written-on n l [] = ap (fitted n) (sym (append-nil l))
+written-on n l (v ∷ t) =
+    ap (λ (k : List ℕ). sets k (suc (length l)) t) (fitted-next n l v)
+    ∙ ap (λ (i : ℕ). sets (fitted n (l ++ (v ∷ []))) i t) (omega (arith, length-append l (v ∷ [])))
+    ∙ written-on n (l ++ (v ∷ [])) t
+    ∙ ap (fitted n) (append-assoc l (v ∷ []) t)

@@ -1,25 +1,8 @@
 // Tables that a caller lends: a list in a table of another length, and zeros after it.
 ghost use mathlib.Core.Path.{_≡_};
 ghost use mathlib.Core.List.{[]};
-ghost use lib.ListN.{length, getD};
+ghost use lib.ListN.{length};
 ghost use Rattle.table.specs.Fitted.{fitted};
-
-fn place_of(table: &[u64], i: usize) -> u64
-    ensures { λ r. ⌜ r ≡ getD (now (table .entry)) i 0 ⌝ }
-{
-    if i < table.len() { table[i] } else { 0 }
-}
-
-// Writes a table into one of another length.
-pub fn fit(table: &[u64], into: &mut [u64])
-    ensures { λ _. ⌜ now (into .exit) ≡ fitted (length (now (into .entry))) (now (table .entry)) ⌝ }
-{
-    let mut i: usize = 0;
-    while i < into.len() {
-        into[i] = place_of(table, i);
-        i += 1;
-    }
-}
 
 // All zero.
 pub fn clear(sizes: &mut [u64])

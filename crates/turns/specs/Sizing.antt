@@ -1,16 +1,15 @@
 -- From an image and the places of a size table to the answer and the table. Refusals 10 and 11.
-use Prim.Native.Nat.{ℕ, _*_, _≤_}
+use Prim.Native.Nat.{ℕ, _*_}
 use mathlib.Core.Path.{_≡_}
 use mathlib.Core.List.{List, []}
 use mathlib.Core.Bool.{Bool, true, false, cond}
-use lib.ListN.{length, replicate}
+use lib.ListN.{length}
 use lib.Seq.{sets}
 use lib.Dec.{ltb}
 use Rattle.image.specs.Schema.{Schema}
 use Rattle.image.specs.declared.Frame.{Frame}
 use Rattle.reader.specs.Reading.{readingOf, schemaOf}
 use Rattle.reader.specs.declared.Reading.{Reading}
-use Rattle.reader.specs.Promise.{Promise}
 use Rattle.sizes.specs.Names.{State}
 use Rattle.sizes.specs.Check.{Checked, accepted, refused, turn, checkSizes, tableOf}
 use Rattle.sizes.specs.Demand.{Demand3}
@@ -55,13 +54,6 @@ pub record SizesSaid (s before after : List ℕ) (r : Sizing) : Type 0 where
   pub answer : (f : Frame) → r ≡ sizingIn (length before) (schemaOf s) (Reading.Accepted f)
   pub table : (f : Frame) → after ≡ fitted (length before) (sizeRowsIn (length before) (schemaOf s) (Reading.Accepted f))
   pub demand : r ≡ Sizing.Accepted → Demand3 (schemaOf s) after
-
--- what working the sizes out relies on: places enough, and as many rows, all zero
-pub record RowsAsked (s starts : List ℕ) (f : Frame) (rows sizes : List ℕ) : Type 0 where
-  pub promise : Promise s starts f
-  pub places : 3 * f .slots ≤ length sizes
-  pub room : 3 * f .slots ≤ length rows
-  pub zero : rows ≡ replicate (length rows) 0
 
 -- a place of the declaration list was passed: the rows hold the sizes stored then, or a number passed the limit
 abbrev pub TurnTaken : Schema → State → (slot : ℕ) → (l after : List ℕ) → Bool → Type 0

@@ -12,7 +12,7 @@ ghost use Rattle.reader.specs.Reading.{schemaOf};
 ghost use Rattle.reader.specs.Promise.{Promise};
 ghost use Rattle.sizes.specs.Names.{State};
 ghost use Rattle.sizes.specs.Check.{brought, tableOf};
-ghost use Rattle.turns.specs.Sizing.{Answered, SizesSaid, RowsAsked, TurnTaken, Through};
+ghost use Rattle.turns.specs.Sizing.{Answered, SizesSaid, TurnTaken, Through};
 
 // Accepted, or a refusal from 1 to 11 with its place.
 pub enum Sizing {
@@ -70,45 +70,23 @@ fn take_turns(image: &[u8], starts: &[usize], frame: Frame, rows: &mut [u64]) ->
     Passed::All
 }
 
-// Refusal 11, or the table. The rows are lent, all zero.
-fn size_in_rows(
-    image: &[u8],
-    starts: &[usize],
-    frame: Frame,
-    rows: &mut [u64],
-    sizes: &mut [u64],
-) -> Sizing
-    requires { ⌜ RowsAsked (now image) (now starts) frame (now rows) (now sizes) ⌝ }
+// An accepted image: refusals 10 and 11, or the table. The rows are worked on where the caller finds them.
+pub fn size_slots(image: &[u8], starts: &[usize], frame: Frame, sizes: &mut [u64]) -> Sizing
+    requires { ⌜ Promise (now image) (now starts) frame ⌝ }
     ensures { λ r. ⌜ SizesSaid (now (image .entry)) (now (sizes .entry)) (now (sizes .exit)) r ⌝ }
 {
-    rows::fill_rows(image, starts, frame, rows);
-    match take_turns(image, starts, frame, rows) {
-        Passed::All => {
-            table::fit(rows, sizes);
-            Sizing::Accepted
-        }
+    table::clear(sizes);
+    if (sizes.len() as u64) < 3 * frame.slots {
+        return Sizing::Refused(10, 0);
+    }
+    rows::fill_rows(image, starts, frame, sizes);
+    match take_turns(image, starts, frame, sizes) {
+        Passed::All => Sizing::Accepted,
         Passed::Over(slot) => {
             table::clear(sizes);
             Sizing::Refused(11, slot)
         }
     }
-}
-
-// An accepted image: refusals 10 and 11, or the table. Few slots need few rows, and rows have to be cleared.
-pub fn size_slots(image: &[u8], starts: &[usize], frame: Frame, sizes: &mut [u64]) -> Sizing
-    requires { ⌜ Promise (now image) (now starts) frame ⌝ }
-    ensures { λ r. ⌜ SizesSaid (now (image .entry)) (now (sizes .entry)) (now (sizes .exit)) r ⌝ }
-{
-    if (sizes.len() as u64) < 3 * frame.slots {
-        table::clear(sizes);
-        return Sizing::Refused(10, 0);
-    }
-    if frame.slots <= 64 {
-        let mut few = [0u64; 192];
-        return size_in_rows(image, starts, frame, &mut few, sizes);
-    }
-    let mut rows = [0u64; 1536];
-    size_in_rows(image, starts, frame, &mut rows, sizes)
 }
 
 // Widths and sizes of an image: the answer, and three numbers a slot in the lent table.

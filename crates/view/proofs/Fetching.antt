@@ -34,6 +34,9 @@ pub record Behind (names : ℕ) (s : List ℕ) (x : Slot) (kind body : ℕ) : Ty
   pub end : ℕ
   pub reads : read (slotBodyAt names kind) s body ≡ done x end
 
+pub body-at : {names : ℕ} {s : List ℕ} {x : Slot} {kind body : ℕ} (b : Behind names s x kind body) (k : ℕ) → kind ≡ k → read (slotBodyAt names k) s body ≡ done x (b .end)
+body-at b k e = rw e at (b .reads)
+
 module _ (s starts : List ℕ) (f : Frame) (promise : Promise s starts f) (k : ℕ) (h : k < f .slots) where
   -- the part of each slot is there
   pub part-is : (body : ℕ) × (partAt s starts k ≡ Part.At (slotKind (slotOf (schemaOf s) k)) body)

@@ -1,14 +1,16 @@
--- Where the parts of a message, a union and a newtype stand. Assumes nothing.
+-- Where the parts of a message, a union, a newtype and a field stand. Assumes nothing.
 use Prim.Native.Nat.{ℕ}
 use mathlib.Core.Path.{_≡_, ap, _∙_}
 use mathlib.Core.List.{List}
 use native.Mathlib.Omega.{arith}
-use Rattle.number.specs.Grammar.{Grammar, counted, Outcome, done, read}
+use Rattle.number.specs.Grammar.{Grammar, counted, Outcome, done, below, read}
 use Rattle.number.specs.Answers.{next, follow}
 use Rattle.number.specs.declared.Next.{Next}
 use Rattle.number.proofs.Reading.{read-done, given, follow-on}
-use Rattle.slot.specs.Field.{typeAt, spanAt, storedAt, fieldsAt}
+use Rattle.tree.specs.Encoding.{encodingAt}
+use Rattle.slot.specs.Field.{typeAt, spanAt, storedAt, Field, fieldAt, fieldsAt}
 use Rattle.slot.specs.Slot.{Message, messageAt, Union, unionAt, Newtype, newtypeAt}
+use Rattle.slot.proofs.Whole.{field-parts}
 
 pub at-same : {x : Next} {n m : ℕ} → x ≡ Next.At n → x ≡ Next.At m → n ≡ m
 at-same p q = cc
@@ -61,3 +63,18 @@ module _ (s : List ℕ) (names body : ℕ) where
         q ∙ ap next (y .here),
         z .here ∙ ap (λ (v : Newtype). done (v .terminal) (z .middle)) (g .0) ∙ ap (done (n .terminal)) (g .1),
       )
+
+  pub inner-stands : (n : Newtype) (end : ℕ) → read (newtypeAt names) s body ≡ done n end → (k : ℕ) × (read (typeAt names) s body ≡ done (n .inner) k)
+  unfolding newtypeAt read
+  inner-stands n end e =
+      let y = read-done (typeAt names) _ s body n end e in
+      let z = read-done (typeAt names) _ s (y .middle) n end (y .rest) in
+      (y .middle, y .here ∙ ap (λ (v : Newtype). done (v .inner) (y .middle)) (given (z .rest) .0))
+
+-- the type of a field, behind its name and its encoding
+pub type-stands : (s : List ℕ) (names at : ℕ) (x : Field) (end : ℕ) → read (fieldAt names) s at ≡ done x end → (a b : Next)
+    → a ≡ next (below names s at) → b ≡ follow a (λ n. next (read (encodingAt 32) s n))
+    → (k : ℕ) × (b ≡ Next.At k) × (read (typeAt names) s k ≡ done (x .type) end)
+type-stands s names at x end e a b p q =
+    let f = field-parts s names at x end e in
+    (f .typed, q ∙ follow-on a _ (f .coded) (p ∙ ap next (f .nameRead)) ∙ ap next (f .encodingRead), f .typeRead)

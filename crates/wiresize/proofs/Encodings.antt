@@ -3,12 +3,13 @@ use Prim.Native.Nat.{ℕ, _-_, _<_, _≤_}
 use mathlib.Core.Path.{_≡_, sym, ap, subst, _∙_}
 use mathlib.Core.List.{List}
 use native.Mathlib.Omega.{arith}
-use Rattle.number.specs.Grammar.{kind, name, number, give, _>>=_, tooDeep, Outcome, done, refused, andThen, below, read}
+use Rattle.number.specs.Grammar.{kind, number, give, _>>=_, tooDeep, Outcome, done, refused, andThen, below, read}
 use Rattle.number.proofs.Reading.{read-done, then-done, read-number, given}
 use Rattle.number.proofs.InRange.{below-is}
 use Rattle.tree.specs.Encoding.{Encoding, default, varint, zigZag, delta, encodingFill, encodingAt}
 use Rattle.tree.proofs.Levels.{nested-deep, nested-on}
-use Rattle.slot.specs.Field.{Field, typeAt, fieldAt}
+use Rattle.slot.specs.Field.{Field, fieldAt}
+use Rattle.slot.proofs.Whole.{field-parts}
 use Rattle.wiresize.specs.Steps.{codedAs, Coding}
 use Rattle.wiresize.specs.declared.Coded.{Coded}
 
@@ -69,34 +70,9 @@ module _ (s : List ℕ) where
         let g = given (d .rest) in
         record { inner = d .first; reads = d .here ∙ ap (done (d .first)) (g .1); same = ap (λ (y : Encoding). codedAs y end) (sym (g .0)) }
 
-  -- a field that was read whole
-  pub record FieldParts (names at : ℕ) (x : Field) (end : ℕ) : Type 0 where
-    pub nameIs : ℕ
-    pub after : ℕ
-    pub nameRead : below names s at ≡ done nameIs after
-    pub middle : ℕ
-    pub encodingRead : read (encodingAt 32) s after ≡ done (x .encoding) middle
-    pub typeRead : read (typeAt names) s middle ≡ done (x .type) end
-
-  pub field-parts : (names at : ℕ) (x : Field) (end : ℕ) → read (fieldAt names) s at ≡ done x end → FieldParts names at x end
-  unfolding fieldAt read
-  field-parts names at x end e =
-      let a = read-done (number name names) _ s at x end e in
-      let b = read-done (encodingAt 32) _ s (a .middle) x end (a .rest) in
-      let c = read-done (typeAt names) _ s (b .middle) x end (b .rest) in
-      let g = given (c .rest) in
-      record {
-        nameIs = a .first;
-        after = a .middle;
-        nameRead = sym (read-number name names s at) ∙ a .here;
-        middle = b .middle;
-        encodingRead = b .here ∙ ap (λ (y : Field). done (y .encoding) (b .middle)) (g .0);
-        typeRead = c .here ∙ ap (λ (y : Field). done (y .type) (c .middle)) (g .0) ∙ ap (done (x .type)) (g .1);
-      }
-
   pub code-at : (names at : ℕ) (x : Field) (end : ℕ) → (q : read (fieldAt names) s at ≡ done x end) → {p : ℕ} {r : Coded}
-      → p ≡ field-parts names at x end q .after → ((e : Encoding) (m : ℕ) → read (encodingAt 32) s p ≡ done e m → r ≡ codedAs e m)
+      → p ≡ field-parts s names at x end q .coded → ((e : Encoding) (m : ℕ) → read (encodingAt 32) s p ≡ done e m → r ≡ codedAs e m)
       → Coding names s x end r
   code-at names at x end q f h =
-      let p = field-parts names at x end q in
-      record { place = p .middle; coded = h _ _ (rw f (p .encodingRead)); reads = p .typeRead }
+      let p = field-parts s names at x end q in
+      record { place = p .typed; coded = h _ _ (rw f (p .encodingRead)); reads = p .typeRead }

@@ -1,6 +1,6 @@
 -- A name by the code's steps: marks, rows, and what the slot holds. Assumes nothing.
 use Prim.Native.Nat.{ℕ, _+_, _*_, _≤_, _<_}
-use mathlib.Core.Path.{_≡_, refl, sym, ap, ap₂, subst, fun-ext, _∙_}
+use mathlib.Core.Path.{_≡_, refl, sym, ap, ap₂, fun-ext, _∙_}
 use mathlib.Core.List.{List}
 use mathlib.Core.Bool.{Bool, true, false, cond}
 use mathlib.Core.Option.{Option, none, some}
@@ -21,7 +21,7 @@ use Rattle.reader.specs.Reading.{schemaOf}
 use Rattle.reader.specs.Promise.{Promise}
 use Rattle.view.specs.Part.{partAt}
 use Rattle.view.specs.declared.Part.{Part}
-use Rattle.view.proofs.Fetching.{part-behind}
+use Rattle.view.proofs.Fetching.{part-behind, body-at}
 use Rattle.sizes.specs.declared.Size.{Size}
 use Rattle.sizes.specs.declared.Size.the-variants.{Fixed, Bounded, Open}
 use Rattle.sizes.specs.declared.Worked.{Worked}
@@ -82,21 +82,21 @@ module _ (s starts : List ℕ) (f : Frame) (p : Promise s starts f) (i : ℕ) (h
     unfolding slotBodyAt
     is-message z =
         let b = part-behind s starts f p i h kind body e in
-        let m = made-of s message (messageAt (f .names)) body _ (b .end) (subst (λ (k : ℕ). read (slotBodyAt (f .names) k) s body ≡ done (slotOf (schemaOf s) i) (b .end)) z (b .reads)) in
+        let m = made-of s message (messageAt (f .names)) body _ (b .end) (body-at b _ z) in
         (m .held, b .end, m .slotIs, m .reads)
 
     pub is-union : kind ≡ 4 → (u : Union) × (end : ℕ) × (slotOf (schemaOf s) i ≡ union u) × (read (unionAt (f .names)) s body ≡ done u end)
     unfolding slotBodyAt
     is-union z =
         let b = part-behind s starts f p i h kind body e in
-        let m = made-of s union (unionAt (f .names)) body _ (b .end) (subst (λ (k : ℕ). read (slotBodyAt (f .names) k) s body ≡ done (slotOf (schemaOf s) i) (b .end)) z (b .reads)) in
+        let m = made-of s union (unionAt (f .names)) body _ (b .end) (body-at b _ z) in
         (m .held, b .end, m .slotIs, m .reads)
 
     pub is-newtype : kind ≡ 5 → (n : Newtype) × (end : ℕ) × (slotOf (schemaOf s) i ≡ newtype n) × (read (newtypeAt (f .names)) s body ≡ done n end)
     unfolding slotBodyAt
     is-newtype z =
         let b = part-behind s starts f p i h kind body e in
-        let m = made-of s newtype (newtypeAt (f .names)) body _ (b .end) (subst (λ (k : ℕ). read (slotBodyAt (f .names) k) s body ≡ done (slotOf (schemaOf s) i) (b .end)) z (b .reads)) in
+        let m = made-of s newtype (newtypeAt (f .names)) body _ (b .end) (body-at b _ z) in
         (m .held, b .end, m .slotIs, m .reads)
 
     pub kind-is : slotKind (slotOf (schemaOf s) i) ≡ kind

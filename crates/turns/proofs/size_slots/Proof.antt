@@ -1,5 +1,5 @@
 use native.Mathlib.Omega.{arith}
-use Rattle.turns.proofs.Saying.{few-places, zeros-asked}
+use Rattle.turns.proofs.Saying.{few-places, passed-limit, all-passed, at-through}
 use borrow.Author.Needs.{needs}
 use Rattle.turns.proofs.size_slots.Statement.{statement}
 use Rattle.turns.proofs.size_slots.Tie as tie
@@ -8,15 +8,16 @@ pub size-slots-spec : {M : Type 1} → statement M
 size-slots-spec =
     tie.close
     (tie.spec
+    (λ c κs. search needs)
+    (λ c. search needs)
+    (λ c. search needs)
+    (λ c. few-places _ _ _ (omega (arith, c .before .before .before .before .before .before .before .before .before .pre .count, c .if1 .taken)) (c .before .before .before .before .clear .ensures))
+    (λ c κs. search needs)
+    (λ c κs. search needs)
+    (λ c. search needs)
     (λ c. search needs)
     (λ c κs. search needs)
     (λ c. search needs)
-    (λ c. few-places _ _ _ (omega (arith, c .before .before .before .before .before .before .before .before .before .pre .count, c .before .before .before .before .if1 .taken)) (c .before .before .clear .ensures))
+    (λ c. all-passed _ _ _ (omega (arith, c .before .before .before .before .before .before .before .before .before .before .before .before .before .before .before .before .before .before .before .pre .count, c .before .before .before .before .before .before .before .before .before .before .if1 .left)) _ (c .before .before .before .before .before .before .before .before .before .before .before .before .before .before .clear .ensures) (at-through _ _ _ _ _ (c .before .before .before .before .take-turns .ensures _ (omega (arith, c .before .before .before .before .before .before .before .before .before .before .before .before .before .before .before .before .before .before .before .pre .count, c .before .before .before .before .before .before .before .before .before .before .if1 .left)) (c .before .before .before .before .before .before .before .before .fill-rows .ensures)) (c .enum-told .given .1)))
     (λ c. search needs)
-    (λ c κs. zeros-asked _ _ _ 192 _ (c .before .before .before .before .before .before .before .before .before .pre) (omega (arith, c .before .before .before .before .if1 .left)) (omega (arith, c .before .before .if2 .taken)))
-    (λ c. search needs)
-    (λ c. search needs)
-    (λ c. search needs)
-    (λ c κs. zeros-asked _ _ _ 1536 _ (c .before .before .before .before .before .before .before .before .before .pre) (omega (arith, c .before .before .before .before .if1 .left)) (omega (arith, c .before .before .before .before .before .before .before .before .before .pre .few)))
-    (λ c. search needs)
-    (λ c. search needs))
+    (λ c. passed-limit _ _ _ (omega (arith, c .before .before .before .before .before .before .before .before .before .before .before .before .before .before .before .before .before .before .before .before .before .before .before .before .pre .count, c .before .before .before .before .before .before .before .before .before .before .before .before .before .before .before .if1 .left)) _ _ (search needs) (at-through _ _ _ _ _ (c .before .before .before .before .before .before .before .before .before .take-turns .ensures _ (omega (arith, c .before .before .before .before .before .before .before .before .before .before .before .before .before .before .before .before .before .before .before .before .before .before .before .before .pre .count, c .before .before .before .before .before .before .before .before .before .before .before .before .before .before .before .if1 .left)) (c .before .before .before .before .before .before .before .before .before .before .before .before .before .fill-rows .ensures)) (c .before .before .before .before .before .slot .given .1)) (c .before .before .clear2 .ensures)))

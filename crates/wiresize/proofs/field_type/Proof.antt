@@ -1,5 +1,6 @@
 use Rattle.wiresize.proofs.Ended.{at-end, not-stopped}
-use Rattle.wiresize.proofs.Encodings.{field-parts, code-at}
+use Rattle.slot.proofs.Whole.{field-parts}
+use Rattle.wiresize.proofs.Encodings.{code-at}
 use borrow.Author.Needs.{needs}
 use Rattle.wiresize.proofs.field_type.Statement.{statement}
 use Rattle.wiresize.proofs.field_type.Tie as tie

@@ -1,0 +1,195 @@
+// Whether the slots of an accepted image stand in an order in which no message holds itself. Most do, and then nothing has
+// to be walked.
+use image::Frame;
+use number::Next;
+use number::Ranged;
+use slot::Short;
+use tree::Head;
+use tree::Sort;
+use view::Part;
+ghost use mathlib.Core.Path.{_≡_};
+ghost use mathlib.Core.List.{List};
+ghost use Prim.Native.Nat.{ℕ, _<_};
+ghost use lib.Dec.{ltb};
+ghost use Rattle.number.specs.Grammar.{done, read};
+ghost use Rattle.tree.specs.Tree.{Tree, Leaf, leafKind, leafNumber};
+ghost use Rattle.slot.specs.Field.{typeAt, Field, fieldAt, fieldsAt};
+ghost use Rattle.image.specs.Schema.{slotOf};
+ghost use Rattle.reader.specs.Reading.{schemaOf};
+ghost use Rattle.reader.specs.Promise.{Promise};
+ghost use Rattle.order.specs.Order.{rank, leadsOn, bareLeaf, bareType, bareFields, bareSlot, ordered};
+
+// Whether the bare name of a type, if it is one, leads on; and the position after the type.
+struct Led {
+    ok: bool,
+    next: usize,
+}
+
+fn is_lower(up: bool, id: u64, slot: u64) -> bool
+    requires { ⌜ slot < 512 ⌝ }
+    ensures { λ r. ⌜ r ≡ ltb (rank up id) (rank up slot) ⌝ }
+{
+    if up { slot < id } else { id < slot }
+}
+
+fn leads_on(image: &[u8], starts: &[usize], frame: Frame, up: bool, slot: usize, id: u64) -> bool
+    requires { ⌜ Promise (now image) (now starts) frame × (slot < frame .slots) ⌝ }
+    ensures { λ r. ⌜ r ≡ leadsOn up (schemaOf (now (image .entry))) slot id ⌝ }
+{
+    if is_lower(up, id, slot as u64) {
+        return true;
+    }
+    if frame.slots <= id {
+        return true;
+    }
+    match view::slot_part(image, starts, id as usize) {
+        Part::At(kind, _) => match kind {
+            1 | 5 => false,
+            _ => true,
+        },
+        Part::Missing => true,
+    }
+}
+
+fn leaf_leads_on(
+    image: &[u8],
+    starts: &[usize],
+    frame: Frame,
+    up: bool,
+    slot: usize,
+    kind: u64,
+    number: u64,
+) -> bool
+    requires { ⌜ Promise (now image) (now starts) frame × (slot < frame .slots) ⌝ }
+    ensures { λ r. ⌜ ((l : Leaf) → leafKind l ≡ kind → leafNumber l ≡ number → r ≡ bareLeaf (leadsOn up (schemaOf (now (image .entry))) slot) l) ⌝ }
+{
+    if kind == 3 {
+        return leads_on(image, starts, frame, up, slot, number);
+    }
+    true
+}
+
+fn type_leads_on(
+    image: &[u8],
+    starts: &[usize],
+    frame: Frame,
+    up: bool,
+    slot: usize,
+    at: usize,
+) -> Led
+    requires { ⌜ Promise (now image) (now starts) frame × (slot < frame .slots) ⌝ }
+    ensures { λ r. ⌜ ((t : Tree) (end : ℕ) → read (typeAt (frame .names)) (now (image .entry)) at ≡ done t end → (r .ok ≡ bareType (leadsOn up (schemaOf (now (image .entry))) slot) t) × (r .next ≡ end)) ⌝ }
+{
+    if let Head::Leaf(kind, _, number, next) = tree::read_head(
+        image,
+        at,
+        Sort::Resolved,
+        frame.names,
+    ) {
+        let ok = leaf_leads_on(image, starts, frame, up, slot, kind, number);
+        return Led { ok, next };
+    }
+    let next = view::place_of(tree::read_tree(image, at, 32, Sort::Resolved, frame.names));
+    Led { ok: true, next }
+}
+
+fn long_field_leads_on(
+    image: &[u8],
+    starts: &[usize],
+    frame: Frame,
+    up: bool,
+    slot: usize,
+    at: usize,
+) -> Led
+    requires { ⌜ Promise (now image) (now starts) frame × (slot < frame .slots) ⌝ }
+    ensures { λ r. ⌜ ((x : Field) (end : ℕ) → read (fieldAt (frame .names)) (now (image .entry)) at ≡ done x end → (r .ok ≡ bareType (leadsOn up (schemaOf (now (image .entry))) slot) (x .type)) × (r .next ≡ end)) ⌝ }
+{
+    let name = number::skip_below(image, at, frame.names);
+    let place = view::place_of(tree::skip_encoding(image, name));
+    type_leads_on(image, starts, frame, up, slot, place)
+}
+
+fn field_leads_on(
+    image: &[u8],
+    starts: &[usize],
+    frame: Frame,
+    up: bool,
+    slot: usize,
+    at: usize,
+) -> Led
+    requires { ⌜ Promise (now image) (now starts) frame × (slot < frame .slots) ⌝ }
+    ensures { λ r. ⌜ ((x : Field) (end : ℕ) → read (fieldAt (frame .names)) (now (image .entry)) at ≡ done x end → (r .ok ≡ bareType (leadsOn up (schemaOf (now (image .entry))) slot) (x .type)) × (r .next ≡ end)) ⌝ }
+{
+    match slot::short_field(image, at, frame.names) {
+        Short::Is(_, kind, number) => {
+            let ok = leaf_leads_on(image, starts, frame, up, slot, kind, number);
+            Led { ok, next: at + 4 }
+        }
+        Short::Other => long_field_leads_on(image, starts, frame, up, slot, at),
+    }
+}
+
+// Fields: their count, and the fields.
+fn fields_lead_on(
+    image: &[u8],
+    starts: &[usize],
+    frame: Frame,
+    up: bool,
+    slot: usize,
+    at: usize,
+) -> bool
+    requires { ⌜ Promise (now image) (now starts) frame × (slot < frame .slots) ⌝ }
+    ensures { λ r. ⌜ ((fs : List Field) (end : ℕ) → read (fieldsAt (frame .names)) (now (image .entry)) at ≡ done fs end → r ≡ bareFields (leadsOn up (schemaOf (now (image .entry))) slot) fs) ⌝ }
+{
+    let Ranged::Value(count, first) = number::read_below(image, at, 65537) else {
+        return true;
+    };
+    let mut left = count;
+    let mut here = first;
+    while 0 < left {
+        let field = field_leads_on(image, starts, frame, up, slot, here);
+        if !field.ok {
+            return false;
+        }
+        here = field.next;
+        left -= 1;
+    }
+    true
+}
+
+fn slot_leads_on(image: &[u8], starts: &[usize], frame: Frame, up: bool, slot: usize) -> bool
+    requires { ⌜ Promise (now image) (now starts) frame × (slot < frame .slots) ⌝ }
+    ensures { λ r. ⌜ r ≡ bareSlot (leadsOn up (schemaOf (now (image .entry))) slot) (slotOf (schemaOf (now (image .entry))) slot) ⌝ }
+{
+    let Part::At(kind, body) = view::slot_part(image, starts, slot) else {
+        return true;
+    };
+    match kind {
+        1 => {
+            let place = view::fields_place(image, body);
+            fields_lead_on(image, starts, frame, up, slot, place)
+        }
+        5 => {
+            let inner = type_leads_on(image, starts, frame, up, slot, body);
+            inner.ok
+        }
+        _ => true,
+    }
+}
+
+// Do the slots stand in an order: by bare names that lead to earlier slots, or `up`, to later ones?
+pub fn is_ordered(image: &[u8], starts: &[usize], frame: Frame, up: bool) -> bool
+    requires { ⌜ Promise (now image) (now starts) frame ⌝ }
+    ensures { λ r. ⌜ r ≡ ordered up (schemaOf (now (image .entry))) ⌝ }
+{
+    let slots = frame.slots as usize;
+    let mut i: usize = 0;
+    while i < slots {
+        if slot_leads_on(image, starts, frame, up, i) {
+            i += 1;
+        } else {
+            return false;
+        }
+    }
+    true
+}
