@@ -43,7 +43,3 @@ adds-then {m} {k} {n} {a} {b} {t} {u} {v} {xs} {ys} c x y h =
 pub adds-same : {m n a : ℕ} {t u : List ℕ} {xs ys : List Finding} (c : ℕ) → m ≤ c → ys ≡ xs → Adds m t u n a xs → Adds c t u n a ys
 adds-same c h e x =
     rw e (record { answer = x .answer; few = omega (arith, x .few); kept = x .kept; table = x .table })
-
--- the answer, with the findings that were there
-pub adds-all : {m n a : ℕ} {t u : List ℕ} {xs : List Finding} → Adds m t u n a xs → (l : List Finding) → length l ≡ n → a ≡ length (l ++ xs)
-adds-all {xs = xs} x l e = omega (arith, x .answer, length-append l xs)

@@ -159,197 +159,199 @@ module _ (names : ℕ) (s places : List ℕ) (a : Node) (q levels : ℕ) (ranked
 -- ## The arms
 
 module _ (names : ℕ) (s places : List ℕ) (p q levels : ℕ) (sort : Sort) where
-  pub compare-deep : (r : Matched) → levels ≡ 0 → Compares names s places p q levels sort r
-  compare-deep r z d t m rt ps ts st e n rq k = absurd (no-tree sort names s q levels z e n rq)
+  some-level : {e : Tree} {n : ℕ} → read (treeAt sort names levels) s q ≡ done e n → levels ≡ 0 → ⊥
+  some-level rq z = no-tree sort names s q levels z _ _ rq
 
-  module _ (h : levels ≡ 0 → ⊥) where
-    pub compare-refused : (r : Matched) (x y : ℕ) → shape (read (headAt sort names) s q) ≡ Head.Refused x y → Compares names s places p q levels sort r
-    compare-refused r x y g d t m rt ps ts st e n rq k = absurd (parts sort names s q levels h _ g e n rq)
+  pub compare-refused : (r : Matched) (x y : ℕ) → shape (read (headAt sort names) s q) ≡ Head.Refused x y → Compares names s places p q levels sort r
+  compare-refused r x y g d t m rt ps ts st e n rq k = absurd (parts sort names s q levels (some-level rq) _ g e n rq)
 
-    module _ (a : Node) (x : a ≡ nodeOf (shape (read (headAt Resolved names) s p))) where
-      -- the name of a slot
-      id-says : (i after : ℕ) (d : ℕ) (t : Tree) (m : ℕ) → read (treeAt Resolved names d) s p ≡ done t m → Says (idAnswer a i after) t (leaf (named i)) m after
-      unfolding idAnswer treeKind
-      id-says i after d t m rt = ⊎-elim is not (equal-or-not (a .kind) 3)
-        where
-          not : (a .kind ≡ 3 → ⊥) → Says (idAnswer a i after) t (leaf (named i)) m after
-          not y = differ (λ f. y (kind-of names s p a x d t m rt ∙ ap treeKind f)) (simp (ne-eqb _ _ y))
+  module _ (a : Node) (x : a ≡ nodeOf (shape (read (headAt Resolved names) s p))) where
+    -- the name of a slot
+    id-says : (i after : ℕ) (d : ℕ) (t : Tree) (m : ℕ) → read (treeAt Resolved names d) s p ≡ done t m → Says (idAnswer a i after) t (leaf (named i)) m after
+    unfolding idAnswer treeKind
+    id-says i after d t m rt = ⊎-elim is not (equal-or-not (a .kind) 3)
+      where
+        not : (a .kind ≡ 3 → ⊥) → Says (idAnswer a i after) t (leaf (named i)) m after
+        not y = differ (λ f. y (kind-of names s p a x d t m rt ∙ ap treeKind f)) (simp (ne-eqb _ _ y))
 
-          is : a .kind ≡ 3 → Says (idAnswer a i after) t (leaf (named i)) m after
-          is y =
-              let c = in-leaf names s p a x d t m rt (named i) y in
-              let z : t ≡ leaf (named (a .number)) = c .1 ∙ ap leaf (leaf-3 (c .0) (a .number) (sym (ap (λ (z : Node). z .kind) (c .3)) ∙ y) (sym (ap (λ (z : Node). z .number) (c .3)))) in
-              let e : a .next ≡ m = ap (λ (z : Node). z .next) (c .3) in
-              ⊎-elim
-              (λ w. agree (z ∙ ap (λ (n : ℕ). leaf (named n)) w) (simp (eq-eqb (a .kind) 3 y, eq-eqb (a .number) i w, e)))
-              (λ w. differ (λ f. w (name-same (sym z ∙ f))) (simp (eq-eqb (a .kind) 3 y, ne-eqb (a .number) i w)))
-              (equal-or-not (a .number) i)
-
-      module _ (k g v b : ℕ) (f : shape (read (headAt sort names) s q) ≡ Head.Leaf k g v b) (finds : List ℕ) (holds : FindsHold s finds) (w : Meaning) (told : MeansHere names s finds places k v sort w) where
-        -- what is said of the leaf that stands there
-        leaf-told : (o : Meaning) → w ≡ o → (ps : List ℕ) (ts : List Tree) → Sound names s ps ts places
-            → (e : Tree) (n : ℕ) → read (treeAt sort names levels) s q ≡ done e n → LookedUp sort places e
-            → (l : Leaf) × (e ≡ leaf l) × (b ≡ n) × (nodeOf (Head.Leaf k g v b) ≡ leafNode l n) × ToldHere names s sort l (meant (schemaOf s) sort ps ts e) o
-        leaf-told o y ps ts st e n rq kn =
-            let c = parts sort names s q levels h _ f e n rq in (
-              c .0,
-              c .1,
-              c .5,
-              leaf-node (sym (c .2)) (sym (c .3)) (sym (c .4)) (c .5),
-              told-as names s sort (c .0) (ap (meant (schemaOf s) sort ps ts) (c .1)) y (told holds ps ts st (c .0) (c .2) (c .4) (known-as places sort (c .1) kn)),
-            )
-
-        pub leaf-itself : w ≡ Meaning.Itself → (node : Node) → node ≡ nodeOf (Head.Leaf k g v b) → (r : Matched) → SameLeaf names s p q a node r → Compares names s places p q levels sort r
-        unfolding ToldHere treeKind
-        leaf-itself y node is r rl d t m rt ps ts st e n rq kn =
-            let o = leaf-told Meaning.Itself y ps ts st e n rq kn in
-            let z = o .4 in
-            let nd : node ≡ leafNode (o .0) n = is ∙ o .3 in
-            let kd : node .kind ≡ leafKind (o .0) = ap (λ (i : Node). i .kind) nd in
+        is : a .kind ≡ 3 → Says (idAnswer a i after) t (leaf (named i)) m after
+        is y =
+            let c = in-leaf names s p a x d t m rt (named i) y in
+            let z : t ≡ leaf (named (a .number)) = c .1 ∙ ap leaf (leaf-3 (c .0) (a .number) (sym (ap (λ (z : Node). z .kind) (c .3)) ∙ y) (sym (ap (λ (z : Node). z .number) (c .3)))) in
+            let e : a .next ≡ m = ap (λ (z : Node). z .next) (c .3) in
             ⊎-elim
-            (λ u.
-            let c = in-leaf names s p a x d t m rt (o .0) (u ∙ kd) in
-            says-map (rl .leaves (c .0) m (c .2) (c .3) sort (o .0) n (leaf-head sort names levels s q e (o .0) n rq (o .1)) nd)
-            (λ i. c .1 ∙ ap leaf i ∙ sym z) (λ i. leaf-same (sym (c .1) ∙ i ∙ z)))
-            (λ u. differ (λ i. u (kind-of names s p a x d t m rt ∙ ap treeKind (i ∙ z) ∙ sym kd)) (rl .kinds u))
-            (equal-or-not (a .kind) (node .kind))
+            (λ w. agree (z ∙ ap (λ (n : ℕ). leaf (named n)) w) (simp (eq-eqb (a .kind) 3 y, eq-eqb (a .number) i w, e)))
+            (λ w. differ (λ f. w (name-same (sym z ∙ f))) (simp (eq-eqb (a .kind) 3 y, ne-eqb (a .number) i w)))
+            (equal-or-not (a .number) i)
 
-        pub leaf-id : (i : ℕ) → w ≡ Meaning.Id i → (r : Matched) → r ≡ idAnswer a i b → Compares names s places p q levels sort r
-        unfolding ToldHere
-        leaf-id i y r u d t m rt ps ts st e n rq kn =
-            let o = leaf-told (Meaning.Id i) y ps ts st e n rq kn in
-            says-renamed (u ∙ ap (idAnswer a i) (o .2)) (says-map (id-says i n d t m rt) (λ c. c ∙ sym (o .4)) (λ c. c ∙ o .4))
+    module _ (k g v b : ℕ) (f : shape (read (headAt sort names) s q) ≡ Head.Leaf k g v b) (finds : List ℕ) (holds : FindsHold s finds) (w : Meaning) (told : MeansHere names s finds places k v sort w) where
+      -- what is said of the leaf that stands there
+      leaf-told : (o : Meaning) → w ≡ o → (ps : List ℕ) (ts : List Tree) → Sound names s ps ts places
+          → (e : Tree) (n : ℕ) → read (treeAt sort names levels) s q ≡ done e n → LookedUp sort places e
+          → (l : Leaf) × (e ≡ leaf l) × (b ≡ n) × (nodeOf (Head.Leaf k g v b) ≡ leafNode l n) × ToldHere names s sort l (meant (schemaOf s) sort ps ts e) o
+      leaf-told o y ps ts st e n rq kn =
+          let c = parts sort names s q levels (some-level rq) _ f e n rq in (
+            c .0,
+            c .1,
+            c .5,
+            leaf-node (sym (c .2)) (sym (c .3)) (sym (c .4)) (c .5),
+            told-as names s sort (c .0) (ap (meant (schemaOf s) sort ps ts) (c .1)) y (told holds ps ts st (c .0) (c .2) (c .4) (known-as places sort (c .1) kn)),
+          )
 
-        pub leaf-type : (at : ℕ) → w ≡ Meaning.Type at → (r₀ r : Matched) → Compares names s places p at 32 Resolved r₀ → r ≡ endingAt r₀ b
-            → Compares names s places p q levels sort r
-        unfolding ToldHere LookedUp meant
-        leaf-type at y r₀ r i u d t m rt ps ts st e n rq kn =
-            let o = leaf-told (Meaning.Type at) y ps ts st e n rq kn in
-            let z = o .4 in
-            says-renamed (u ∙ ap (endingAt r₀) (o .2)) (says-ending n (i d t m rt ps ts st _ (z .1) (z .2) tt))
+      pub leaf-itself : w ≡ Meaning.Itself → (node : Node) → node ≡ nodeOf (Head.Leaf k g v b) → (r : Matched) → SameLeaf names s p q a node r → Compares names s places p q levels sort r
+      unfolding ToldHere treeKind
+      leaf-itself y node is r rl d t m rt ps ts st e n rq kn =
+          let o = leaf-told Meaning.Itself y ps ts st e n rq kn in
+          let z = o .4 in
+          let nd : node ≡ leafNode (o .0) n = is ∙ o .3 in
+          let kd : node .kind ≡ leafKind (o .0) = ap (λ (i : Node). i .kind) nd in
+          ⊎-elim
+          (λ u.
+          let c = in-leaf names s p a x d t m rt (o .0) (u ∙ kd) in
+          says-map (rl .leaves (c .0) m (c .2) (c .3) sort (o .0) n (leaf-head sort names levels s q e (o .0) n rq (o .1)) nd)
+          (λ i. c .1 ∙ ap leaf i ∙ sym z) (λ i. leaf-same (sym (c .1) ∙ i ∙ z)))
+          (λ u. differ (λ i. u (kind-of names s p a x d t m rt ∙ ap treeKind (i ∙ z) ∙ sym kd)) (rl .kinds u))
+          (equal-or-not (a .kind) (node .kind))
 
-        pub leaf-none : w ≡ Meaning.NotName → (r : Matched) → Compares names s places p q levels sort r
-        unfolding ToldHere
-        leaf-none y r d t m rt ps ts st e n rq kn = absurd (leaf-told Meaning.NotName y ps ts st e n rq kn .4)
+      pub leaf-id : (i : ℕ) → w ≡ Meaning.Id i → (r : Matched) → r ≡ idAnswer a i b → Compares names s places p q levels sort r
+      unfolding ToldHere
+      leaf-id i y r u d t m rt ps ts st e n rq kn =
+          let o = leaf-told (Meaning.Id i) y ps ts st e n rq kn in
+          says-renamed (u ∙ ap (idAnswer a i) (o .2)) (says-map (id-says i n d t m rt) (λ c. c ∙ sym (o .4)) (λ c. c ∙ o .4))
 
-      module _ (v b : ℕ) (g : shape (read (headAt sort names) s q) ≡ Head.Generic v b) where
-        pub compare-generic : (r : Matched) → SameGeneric names s places a q levels r → Compares names s places p q levels sort r
-        unfolding meant
-        compare-generic r i d t m rt ps ts st e n rq kn =
-            let o = parts sort names s q levels h _ g e n rq in
-            go sort rq (o .0) (o .1)
-          where
-            go : (sort : Sort) → read (treeAt sort names levels) s q ≡ done e n → (u : Tree) → e ≡ generic v u → Says r t (meant (schemaOf s) sort ps ts e) m n
-            go Resolved rd u f = absurd (no-generic names levels s q v u e n rd f)
-            go Expression rd u f =
-                let c = i ps ts st v u n (rd ∙ ap (λ (y : Tree). done y n) f) in
-                let z : meaningOf (schemaOf s) ps ts e ≡ leaf (named (c .0)) = ap (meaningOf (schemaOf s) ps ts) f ∙ c .1 in
-                says-renamed (c .2) (says-map (id-says (c .0) n d t m rt) (λ j. j ∙ sym z) (λ j. j ∙ z))
+      pub leaf-type : (at : ℕ) → w ≡ Meaning.Type at → (r₀ r : Matched) → Compares names s places p at 32 Resolved r₀ → r ≡ endingAt r₀ b
+          → Compares names s places p q levels sort r
+      unfolding ToldHere LookedUp meant
+      leaf-type at y r₀ r i u d t m rt ps ts st e n rq kn =
+          let o = leaf-told (Meaning.Type at) y ps ts st e n rq kn in
+          let z = o .4 in
+          says-renamed (u ∙ ap (endingAt r₀) (o .2)) (says-ending n (i d t m rt ps ts st _ (z .1) (z .2) tt))
 
-      module _ (k b : ℕ) (g : shape (read (headAt sort names) s q) ≡ Head.One k b) where
-        pub one-same : a .kind ≡ k → (r : Matched) → Compares names s places (a .next) b (levels - 1) sort r → Compares names s places p q levels sort r
-        one-same y r i d t m rt ps ts st e n rq kn =
-            let o = parts sort names s q levels h _ g e n rq in
-            let c = in-wrap names s p a x d t m rt (o .0) (y ∙ sym (o .3)) in
-            let z = meant-wrap (schemaOf s) sort ps ts (o .0) (o .1) (o .2) in
-            says-map (i (d - 1) (c .0) m (c .2) ps ts st (o .1) n (o .4) (known-wrap places sort (o .0) (o .1) (o .2) kn)) (wraps (c .1) z) (unwraps (c .1) z)
-          where
-            wraps : {t u T X : Tree} {w : Wrap} → T ≡ wrap w t → X ≡ wrap w u → t ≡ u → T ≡ X
-            wraps a b c = cc
+      pub leaf-none : w ≡ Meaning.NotName → (r : Matched) → Compares names s places p q levels sort r
+      unfolding ToldHere
+      leaf-none y r d t m rt ps ts st e n rq kn = absurd (leaf-told Meaning.NotName y ps ts st e n rq kn .4)
 
-            unwraps : {t u T X : Tree} {w : Wrap} → T ≡ wrap w t → X ≡ wrap w u → T ≡ X → t ≡ u
-            unwraps a b c = cc
+    module _ (v b : ℕ) (g : shape (read (headAt sort names) s q) ≡ Head.Generic v b) where
+      pub compare-generic : (r : Matched) → SameGeneric names s places a q levels r → Compares names s places p q levels sort r
+      unfolding meant
+      compare-generic r i d t m rt ps ts st e n rq kn =
+          let o = parts sort names s q levels (some-level rq) _ g e n rq in
+          go sort rq (o .0) (o .1)
+        where
+          go : (sort : Sort) → read (treeAt sort names levels) s q ≡ done e n → (u : Tree) → e ≡ generic v u → Says r t (meant (schemaOf s) sort ps ts e) m n
+          go Resolved rd u f = absurd (no-generic names levels s q v u e n rd f)
+          go Expression rd u f =
+              let c = i ps ts st v u n (rd ∙ ap (λ (y : Tree). done y n) f) in
+              let z : meaningOf (schemaOf s) ps ts e ≡ leaf (named (c .0)) = ap (meaningOf (schemaOf s) ps ts) f ∙ c .1 in
+              says-renamed (c .2) (says-map (id-says (c .0) n d t m rt) (λ j. j ∙ sym z) (λ j. j ∙ z))
 
-        pub one-differs : (a .kind ≡ k → ⊥) → Compares names s places p q levels sort Matched.Differs
-        unfolding treeKind
-        one-differs y d t m rt ps ts st e n rq kn =
-            let o = parts sort names s q levels h _ g e n rq in
-            let z = meant-wrap (schemaOf s) sort ps ts (o .0) (o .1) (o .2) in
-            differ (λ f. y (kind-of names s p a x d t m rt ∙ ap treeKind (f ∙ z) ∙ o .3)) refl
+    module _ (k b : ℕ) (g : shape (read (headAt sort names) s q) ≡ Head.One k b) where
+      pub one-same : a .kind ≡ k → (r : Matched) → Compares names s places (a .next) b (levels - 1) sort r → Compares names s places p q levels sort r
+      one-same y r i d t m rt ps ts st e n rq kn =
+          let o = parts sort names s q levels (some-level rq) _ g e n rq in
+          let c = in-wrap names s p a x d t m rt (o .0) (y ∙ sym (o .3)) in
+          let z = meant-wrap (schemaOf s) sort ps ts (o .0) (o .1) (o .2) in
+          says-map (i (d - 1) (c .0) m (c .2) ps ts st (o .1) n (o .4) (known-wrap places sort (o .0) (o .1) (o .2) kn)) (wraps (c .1) z) (unwraps (c .1) z)
+        where
+          wraps : {t u T X : Tree} {w : Wrap} → T ≡ wrap w t → X ≡ wrap w u → t ≡ u → T ≡ X
+          wraps a b c = cc
 
-      module _ (k b : ℕ) (g : shape (read (headAt sort names) s q) ≡ Head.Two k b) where
-        pub two-differs : (a .kind ≡ k → ⊥) → Compares names s places p q levels sort Matched.Differs
-        unfolding treeKind
-        two-differs y d t m rt ps ts st e n rq kn =
-            let o = parts sort names s q levels h _ g e n rq in
+          unwraps : {t u T X : Tree} {w : Wrap} → T ≡ wrap w t → X ≡ wrap w u → T ≡ X → t ≡ u
+          unwraps a b c = cc
+
+      pub one-differs : (a .kind ≡ k → ⊥) → Compares names s places p q levels sort Matched.Differs
+      unfolding treeKind
+      one-differs y d t m rt ps ts st e n rq kn =
+          let o = parts sort names s q levels (some-level rq) _ g e n rq in
+          let z = meant-wrap (schemaOf s) sort ps ts (o .0) (o .1) (o .2) in
+          differ (λ f. y (kind-of names s p a x d t m rt ∙ ap treeKind (f ∙ z) ∙ o .3)) refl
+
+    module _ (k b : ℕ) (g : shape (read (headAt sort names) s q) ≡ Head.Two k b) where
+      pub two-differs : (a .kind ≡ k → ⊥) → Compares names s places p q levels sort Matched.Differs
+      unfolding treeKind
+      two-differs y d t m rt ps ts st e n rq kn =
+          let o = parts sort names s q levels (some-level rq) _ g e n rq in
+          let z = meant-pair (schemaOf s) sort ps ts (o .0) (o .1) (o .2) (o .4) in
+          differ (λ f. y (kind-of names s p a x d t m rt ∙ ap treeKind (f ∙ z) ∙ o .5)) refl
+
+      module _ (y : a .kind ≡ k) (first : Matched) (i : Compares names s places (a .next) b (levels - 1) sort first) where
+        pub two-first : first ≡ Matched.Differs → Compares names s places p q levels sort Matched.Differs
+        two-first v d t m rt ps ts st e n rq kn =
+            let o = parts sort names s q levels (some-level rq) _ g e n rq in
+            let c = in-pair names s p a x d t m rt (o .0) (y ∙ sym (o .5)) in
             let z = meant-pair (schemaOf s) sort ps ts (o .0) (o .1) (o .2) (o .4) in
-            differ (λ f. y (kind-of names s p a x d t m rt ∙ ap treeKind (f ∙ z) ∙ o .5)) refl
+            let u = known-pair places sort (o .0) (o .1) (o .2) (o .4) kn in
+            differ (λ f. says-not (i (d - 1) (c .0) (c .2) (c .4) ps ts st (o .1) (o .3) (o .6) (u .0)) v (firsts (c .3) z f)) refl
+          where
+            firsts : {t u t′ u′ T X : Tree} {w : Pair} → T ≡ pair w t u → X ≡ pair w t′ u′ → T ≡ X → t ≡ t′
+            firsts a b c = cc
 
-        module _ (y : a .kind ≡ k) (first : Matched) (i : Compares names s places (a .next) b (levels - 1) sort first) where
-          pub two-first : first ≡ Matched.Differs → Compares names s places p q levels sort Matched.Differs
-          two-first v d t m rt ps ts st e n rq kn =
-              let o = parts sort names s q levels h _ g e n rq in
-              let c = in-pair names s p a x d t m rt (o .0) (y ∙ sym (o .5)) in
-              let z = meant-pair (schemaOf s) sort ps ts (o .0) (o .1) (o .2) (o .4) in
-              let u = known-pair places sort (o .0) (o .1) (o .2) (o .4) kn in
-              differ (λ f. says-not (i (d - 1) (c .0) (c .2) (c .4) ps ts st (o .1) (o .3) (o .6) (u .0)) v (firsts (c .3) z f)) refl
-            where
-              firsts : {t u t′ u′ T X : Tree} {w : Pair} → T ≡ pair w t u → X ≡ pair w t′ u′ → T ≡ X → t ≡ t′
-              firsts a b c = cc
+        pub two-second : (m₁ n₁ : ℕ) → first ≡ Matched.Same m₁ n₁ → (r : Matched) → Compares names s places m₁ n₁ (levels - 1) sort r
+            → Compares names s places p q levels sort r
+        two-second m₁ n₁ v r j d t m rt ps ts st e n rq kn =
+            let o = parts sort names s q levels (some-level rq) _ g e n rq in
+            let c = in-pair names s p a x d t m rt (o .0) (y ∙ sym (o .5)) in
+            let z = meant-pair (schemaOf s) sort ps ts (o .0) (o .1) (o .2) (o .4) in
+            let u = known-pair places sort (o .0) (o .1) (o .2) (o .4) kn in
+            let f = says-same (i (d - 1) (c .0) (c .2) (c .4) ps ts st (o .1) (o .3) (o .6) (u .0)) v in
+            says-map
+            (j (d - 1) (c .1) m (ap (read (treeAt Resolved names (d - 1)) s) (f .1) ∙ c .5) ps ts st (o .2) n (ap (read (treeAt sort names (levels - 1)) s) (f .2) ∙ o .7) (u .1))
+            (both (c .3) z (f .0)) (seconds (c .3) z)
+          where
+            both : {t u t′ u′ T X : Tree} {w : Pair} → T ≡ pair w t u → X ≡ pair w t′ u′ → t ≡ t′ → u ≡ u′ → T ≡ X
+            both a b c d = cc
 
-          pub two-second : (m₁ n₁ : ℕ) → first ≡ Matched.Same m₁ n₁ → (r : Matched) → Compares names s places m₁ n₁ (levels - 1) sort r
-              → Compares names s places p q levels sort r
-          two-second m₁ n₁ v r j d t m rt ps ts st e n rq kn =
-              let o = parts sort names s q levels h _ g e n rq in
-              let c = in-pair names s p a x d t m rt (o .0) (y ∙ sym (o .5)) in
-              let z = meant-pair (schemaOf s) sort ps ts (o .0) (o .1) (o .2) (o .4) in
-              let u = known-pair places sort (o .0) (o .1) (o .2) (o .4) kn in
-              let f = says-same (i (d - 1) (c .0) (c .2) (c .4) ps ts st (o .1) (o .3) (o .6) (u .0)) v in
-              says-map
-              (j (d - 1) (c .1) m (ap (read (treeAt Resolved names (d - 1)) s) (f .1) ∙ c .5) ps ts st (o .2) n (ap (read (treeAt sort names (levels - 1)) s) (f .2) ∙ o .7) (u .1))
-              (both (c .3) z (f .0)) (seconds (c .3) z)
-            where
-              both : {t u t′ u′ T X : Tree} {w : Pair} → T ≡ pair w t u → X ≡ pair w t′ u′ → t ≡ t′ → u ≡ u′ → T ≡ X
-              both a b c d = cc
+            seconds : {t u t′ u′ T X : Tree} {w : Pair} → T ≡ pair w t u → X ≡ pair w t′ u′ → T ≡ X → u ≡ u′
+            seconds a b c = cc
 
-              seconds : {t u t′ u′ T X : Tree} {w : Pair} → T ≡ pair w t u → X ≡ pair w t′ u′ → T ≡ X → u ≡ u′
-              seconds a b c = cc
+    module _ (b : ℕ) (g : shape (read (headAt sort names) s q) ≡ Head.Sized b) where
+      pub sized-differs : (a .kind ≡ 6 → ⊥) → Compares names s places p q levels sort Matched.Differs
+      unfolding treeKind
+      sized-differs y d t m rt ps ts st e n rq kn =
+          let o = parts sort names s q levels (some-level rq) _ g e n rq in
+          let z = meant-array (schemaOf s) sort ps ts (o .0) (o .2) (o .3) in
+          differ (λ f. y (kind-of names s p a x d t m rt ∙ ap treeKind (f ∙ z))) refl
 
-      module _ (b : ℕ) (g : shape (read (headAt sort names) s q) ≡ Head.Sized b) where
-        pub sized-differs : (a .kind ≡ 6 → ⊥) → Compares names s places p q levels sort Matched.Differs
-        unfolding treeKind
-        sized-differs y d t m rt ps ts st e n rq kn =
-            let o = parts sort names s q levels h _ g e n rq in
+      module _ (y : a .kind ≡ 6) (first : Matched) (i : Compares names s places (a .next) b (levels - 1) sort first) where
+        pub sized-first : first ≡ Matched.Differs → Compares names s places p q levels sort Matched.Differs
+        sized-first v d t m rt ps ts st e n rq kn =
+            let o = parts sort names s q levels (some-level rq) _ g e n rq in
+            let c = in-array names s p a x d t m rt y in
             let z = meant-array (schemaOf s) sort ps ts (o .0) (o .2) (o .3) in
-            differ (λ f. y (kind-of names s p a x d t m rt ∙ ap treeKind (f ∙ z))) refl
+            let u = known-array places sort (o .0) (o .2) (o .3) kn in
+            differ (λ f. says-not (i (d - 1) (c .0) (c .2) (c .4) ps ts st (o .0) (o .1) (o .4) u) v (elements (c .3) z f)) refl
+          where
+            elements : {t u T X : Tree} {k l : ℕ} → T ≡ fixedArray t k → X ≡ fixedArray u l → T ≡ X → t ≡ u
+            elements a b c = cc
 
-        module _ (y : a .kind ≡ 6) (first : Matched) (i : Compares names s places (a .next) b (levels - 1) sort first) where
-          pub sized-first : first ≡ Matched.Differs → Compares names s places p q levels sort Matched.Differs
-          sized-first v d t m rt ps ts st e n rq kn =
-              let o = parts sort names s q levels h _ g e n rq in
-              let c = in-array names s p a x d t m rt y in
-              let z = meant-array (schemaOf s) sort ps ts (o .0) (o .2) (o .3) in
-              let u = known-array places sort (o .0) (o .2) (o .3) kn in
-              differ (λ f. says-not (i (d - 1) (c .0) (c .2) (c .4) ps ts st (o .0) (o .1) (o .4) u) v (elements (c .3) z f)) refl
-            where
-              elements : {t u T X : Tree} {k l : ℕ} → T ≡ fixedArray t k → X ≡ fixedArray u l → T ≡ X → t ≡ u
-              elements a b c = cc
+        pub sized-second : (m₁ n₁ : ℕ) → first ≡ Matched.Same m₁ n₁ → (r : Matched) → SameSize s m₁ n₁ r → Compares names s places p q levels sort r
+        sized-second m₁ n₁ v r j d t m rt ps ts st e n rq kn =
+            let o = parts sort names s q levels (some-level rq) _ g e n rq in
+            let c = in-array names s p a x d t m rt y in
+            let z = meant-array (schemaOf s) sort ps ts (o .0) (o .2) (o .3) in
+            let u = known-array places sort (o .0) (o .2) (o .3) kn in
+            let f = says-same (i (d - 1) (c .0) (c .2) (c .4) ps ts st (o .0) (o .1) (o .4) u) v in
+            says-map (j (c .1) m (ap (below (2 ^ 64) s) (f .1) ∙ c .5) (o .2) n (ap (below (2 ^ 64) s) (f .2) ∙ o .5))
+            (both (c .3) z (f .0)) (sizes (c .3) z)
+          where
+            both : {t u T X : Tree} {k l : ℕ} → T ≡ fixedArray t k → X ≡ fixedArray u l → t ≡ u → k ≡ l → T ≡ X
+            both a b c d = cc
 
-          pub sized-second : (m₁ n₁ : ℕ) → first ≡ Matched.Same m₁ n₁ → (r : Matched) → SameSize s m₁ n₁ r → Compares names s places p q levels sort r
-          sized-second m₁ n₁ v r j d t m rt ps ts st e n rq kn =
-              let o = parts sort names s q levels h _ g e n rq in
-              let c = in-array names s p a x d t m rt y in
-              let z = meant-array (schemaOf s) sort ps ts (o .0) (o .2) (o .3) in
-              let u = known-array places sort (o .0) (o .2) (o .3) kn in
-              let f = says-same (i (d - 1) (c .0) (c .2) (c .4) ps ts st (o .0) (o .1) (o .4) u) v in
-              says-map (j (c .1) m (ap (below (2 ^ 64) s) (f .1) ∙ c .5) (o .2) n (ap (below (2 ^ 64) s) (f .2) ∙ o .5))
-              (both (c .3) z (f .0)) (sizes (c .3) z)
-            where
-              both : {t u T X : Tree} {k l : ℕ} → T ≡ fixedArray t k → X ≡ fixedArray u l → t ≡ u → k ≡ l → T ≡ X
-              both a b c d = cc
-
-              sizes : {t u T X : Tree} {k l : ℕ} → T ≡ fixedArray t k → X ≡ fixedArray u l → T ≡ X → k ≡ l
-              sizes a b c = cc
+            sizes : {t u T X : Tree} {k l : ℕ} → T ≡ fixedArray t k → X ≡ fixedArray u l → T ≡ X → k ≡ l
+            sizes a b c = cc
 
 -- ## What each call asks for
 
-module _ (s starts : List ℕ) (f : Frame) (finds places : List ℕ) (p q levels : ℕ) (sort : Sort) (h : levels ≡ 0 → ⊥)
+pub asked-level : {s starts : List ℕ} {f : Frame} {finds places : List ℕ} {p q levels : ℕ} {sort : Sort} → Asked s starts f finds places p q levels sort → levels ≡ 0 → ⊥
+asked-level j z = no-tree _ _ _ _ _ z (j .tree) (j .end) (j .reads)
+
+module _ (s starts : List ℕ) (f : Frame) (finds places : List ℕ) (p q levels : ℕ) (sort : Sort)
     (a : Node) (x : a ≡ nodeOf (shape (read (headAt Resolved (f .names)) s p))) (j : Asked s starts f finds places p q levels sort) where
   pub asked-type : (k g v b : ℕ) → shape (read (headAt sort (f .names)) s q) ≡ Head.Leaf k g v b → (w : Meaning) → MeansHere (f .names) s finds places k v sort w
       → (at : ℕ) → w ≡ Meaning.Type at → Asked s starts f finds places p at 32 Resolved × (sort ≡ Expression)
   unfolding ToldHere LookedUp
   asked-type k g v b e w told at y =
-      let z = leaf-told (f .names) s places p q levels sort h a x k g v b e finds (j .ready .holds) w told (Meaning.Type at) y (j .parameters) (j .arguments) (j .sound) (j .tree) (j .end) (j .reads) (j .known) .4 in (
+      let z = leaf-told (f .names) s places p q levels sort a x k g v b e finds (j .ready .holds) w told (Meaning.Type at) y (j .parameters) (j .arguments) (j .sound) (j .tree) (j .end) (j .reads) (j .known) .4 in (
         record {
           ready = j .ready;
           few = omega arith;
@@ -370,7 +372,7 @@ module _ (s starts : List ℕ) (f : Frame) (finds places : List ℕ) (p q levels
 
   pub asked-generic : (v b : ℕ) → shape (read (headAt sort (f .names)) s q) ≡ Head.Generic v b → sc.Asked s starts f finds places q levels Scope.Types
   unfolding LookedUp KnownIn
-  asked-generic v b e = go sort (j .reads) (j .known) (parts sort (f .names) s q levels h _ e (j .tree) (j .end) (j .reads) .1)
+  asked-generic v b e = go sort (j .reads) (j .known) (parts sort (f .names) s q levels (asked-level j) _ e (j .tree) (j .end) (j .reads) .1)
     where
       go : (sort : Sort) → read (treeAt sort (f .names) levels) s q ≡ done (j .tree) (j .end) → LookedUp sort places (j .tree)
           → {u : Tree} → j .tree ≡ generic v u → sc.Asked s starts f finds places q levels Scope.Types
@@ -399,21 +401,21 @@ module _ (s starts : List ℕ) (f : Frame) (finds places : List ℕ) (p q levels
 
   pub asked-one : (k b : ℕ) → shape (read (headAt sort (f .names)) s q) ≡ Head.One k b → a .kind ≡ k → Asked s starts f finds places (a .next) b (levels - 1) sort
   asked-one k b g y =
-      let o = parts sort (f .names) s q levels h _ g (j .tree) (j .end) (j .reads) in
+      let o = parts sort (f .names) s q levels (asked-level j) _ g (j .tree) (j .end) (j .reads) in
       let c = in-wrap (f .names) s p a x (j .depth) (j .type) (j .typeEnd) (j .typeRead) (o .0) (y ∙ sym (o .3)) in
       child (a .next) b (c .0) (j .typeEnd) (c .2) (o .1) (j .end) (o .4) (known-wrap places sort (o .0) (o .1) (o .2) (j .known))
 
   module _ (k b : ℕ) (g : shape (read (headAt sort (f .names)) s q) ≡ Head.Two k b) (y : a .kind ≡ k) where
     pub asked-first : Asked s starts f finds places (a .next) b (levels - 1) sort
     asked-first =
-        let o = parts sort (f .names) s q levels h _ g (j .tree) (j .end) (j .reads) in
+        let o = parts sort (f .names) s q levels (asked-level j) _ g (j .tree) (j .end) (j .reads) in
         let c = in-pair (f .names) s p a x (j .depth) (j .type) (j .typeEnd) (j .typeRead) (o .0) (y ∙ sym (o .5)) in
         child (a .next) b (c .0) (c .2) (c .4) (o .1) (o .3) (o .6) (known-pair places sort (o .0) (o .1) (o .2) (o .4) (j .known) .0)
 
     pub asked-second : (first : Matched) → Compares (f .names) s places (a .next) b (levels - 1) sort first → (m n : ℕ) → first ≡ Matched.Same m n
         → Asked s starts f finds places m n (levels - 1) sort
     asked-second first i m n v =
-        let o = parts sort (f .names) s q levels h _ g (j .tree) (j .end) (j .reads) in
+        let o = parts sort (f .names) s q levels (asked-level j) _ g (j .tree) (j .end) (j .reads) in
         let c = in-pair (f .names) s p a x (j .depth) (j .type) (j .typeEnd) (j .typeRead) (o .0) (y ∙ sym (o .5)) in
         let u = known-pair places sort (o .0) (o .1) (o .2) (o .4) (j .known) in
         let z = says-same (i (j .depth - 1) (c .0) (c .2) (c .4) (j .parameters) (j .arguments) (j .sound) (o .1) (o .3) (o .6) (u .0)) v in
@@ -422,7 +424,7 @@ module _ (s starts : List ℕ) (f : Frame) (finds places : List ℕ) (p q levels
 
   pub asked-element : (b : ℕ) → shape (read (headAt sort (f .names)) s q) ≡ Head.Sized b → a .kind ≡ 6 → Asked s starts f finds places (a .next) b (levels - 1) sort
   asked-element b g y =
-      let o = parts sort (f .names) s q levels h _ g (j .tree) (j .end) (j .reads) in
+      let o = parts sort (f .names) s q levels (asked-level j) _ g (j .tree) (j .end) (j .reads) in
       let c = in-array (f .names) s p a x (j .depth) (j .type) (j .typeEnd) (j .typeRead) y in
       child (a .next) b (c .0) (c .2) (c .4) (o .0) (o .1) (o .4) (known-array places sort (o .0) (o .2) (o .3) (j .known))
 

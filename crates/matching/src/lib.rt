@@ -242,9 +242,6 @@ pub fn types_compatible(
     requires { ⌜ Asked (now image) (now starts) frame (now finds) (now places) p q levels sort ⌝ }
     ensures { λ r. ⌜ Compares (frame .names) (now (image .entry)) (now (places .entry)) p q levels sort r ⌝ }
 {
-    if levels == 0 {
-        return Matched::Differs;
-    }
     let names = frame.names;
     let a = node_of(tree::read_head(image, p, Sort::Resolved, names));
     let head = tree::read_head(image, q, sort, names);

@@ -104,10 +104,6 @@ code-at (suc (suc q)) h = let e : suc (suc q) - 2 ≡ q = omega arith in rw e
 
 -- plain names
 module _ (names : ℕ) (s finds places : List ℕ) (n : ℕ) (scope : Scope) where
-  pub in-plain : (r : Meaning) → scope ≡ Scope.Plain → RightParameter names s finds places scope n r
-  unfolding Stands
-  in-plain r e h ps ts st k = absurd (rw e at st)
-
   module _ (e : scope ≡ Scope.Types) (code : ℕ) (c : code ≡ getD places n 0) where
     looked : (ps : List ℕ) (ts : List Tree) → Stands names s places scope ps ts → KnownIn scope places (leaf (named n))
         → (code ≡ 0 → ⊥) × IsArgument names s ps ts n (foundOf code)

@@ -51,7 +51,6 @@ module _ (S : Schema) (n : ℕ) (t : Tree) where
 -- the names of a generic's argument were looked up with its own
 pub known-argument : (scope : Scope) (places : List ℕ) (n : ℕ) (u : Tree) → KnownIn scope places (generic n u) → KnownIn scope places u
 unfolding KnownIn AtNames
-known-argument Scope.Plain places n u k = tt
 known-argument Scope.Types places n u k = k
 known-argument (Scope.One p v) places n u k = tt
 
@@ -66,87 +65,86 @@ module _ (s starts : List ℕ) (f : Frame) (finds places : List ℕ) (at levels 
   abbrev Right : Value → Type 0
   Right r = RightName (f .names) levels s places at scope r
 
-  pub name-deep : (r : Value) → levels ≡ 0 → Right r
-  name-deep r z = absurd (no-tree Expression (f .names) s at levels z (a .tree) (a .end) (a .reads))
+  pub some-level : levels ≡ 0 → ⊥
+  some-level z = no-tree Expression (f .names) s at levels z (a .tree) (a .end) (a .reads)
 
-  module _ (h : levels ≡ 0 → ⊥) where
-    pub name-leaf : (k g v n : ℕ) (r : Value) → Shape (Head.Leaf k g v n) → RightLeaf (f .names) s finds places scope k v r → Right r
-    unfolding substitute
-    name-leaf k g v n r x w ps ts st e end q chain l =
-        let p = parts Expression (f .names) s at levels h _ x e end q in
-        let same : a .tree ≡ leaf (p .0) = given (sym (a .reads) ∙ q) .0 ∙ p .1 in
-        rw (p .1) (w (a .ready .holds) ps ts st (p .0) (p .2) (p .4) (subst (λ (u : Tree). KnownIn scope places u) same (a .known)))
+  pub name-leaf : (k g v n : ℕ) (r : Value) → Shape (Head.Leaf k g v n) → RightLeaf (f .names) s finds places scope k v r → Right r
+  unfolding substitute
+  name-leaf k g v n r x w ps ts st e end q chain l =
+      let p = parts Expression (f .names) s at levels some-level _ x e end q in
+      let same : a .tree ≡ leaf (p .0) = given (sym (a .reads) ∙ q) .0 ∙ p .1 in
+      rw (p .1) (w (a .ready .holds) ps ts st (p .0) (p .2) (p .4) (subst (λ (u : Tree). KnownIn scope places u) same (a .known)))
 
-    pub name-one : (k n : ℕ) → Shape (Head.One k n) → Right Value.NotName
-    unfolding substitute valueOf
-    name-one k n x ps ts st e end q chain l = let p = parts Expression (f .names) s at levels h _ x e end q in rw (p .2)
+  pub name-one : (k n : ℕ) → Shape (Head.One k n) → Right Value.NotName
+  unfolding substitute valueOf
+  name-one k n x ps ts st e end q chain l = let p = parts Expression (f .names) s at levels some-level _ x e end q in rw (p .2)
 
-    pub name-two : (k n : ℕ) → Shape (Head.Two k n) → Right Value.NotName
-    unfolding substitute valueOf
-    name-two k n x ps ts st e end q chain l = let p = parts Expression (f .names) s at levels h _ x e end q in rw (p .4)
+  pub name-two : (k n : ℕ) → Shape (Head.Two k n) → Right Value.NotName
+  unfolding substitute valueOf
+  name-two k n x ps ts st e end q chain l = let p = parts Expression (f .names) s at levels some-level _ x e end q in rw (p .4)
 
-    pub name-sized : (n : ℕ) → Shape (Head.Sized n) → Right Value.NotName
-    unfolding substitute valueOf
-    name-sized n x ps ts st e end q chain l = let p = parts Expression (f .names) s at levels h _ x e end q in rw (p .3)
+  pub name-sized : (n : ℕ) → Shape (Head.Sized n) → Right Value.NotName
+  unfolding substitute valueOf
+  name-sized n x ps ts st e end q chain l = let p = parts Expression (f .names) s at levels some-level _ x e end q in rw (p .3)
 
-    pub name-refused : (r n : ℕ) (o : Value) → Shape (Head.Refused r n) → Right o
-    name-refused r n o x = absurd (parts Expression (f .names) s at levels h _ x (a .tree) (a .end) (a .reads))
+  pub name-refused : (r n : ℕ) (o : Value) → Shape (Head.Refused r n) → Right o
+  name-refused r n o x = absurd (parts Expression (f .names) s at levels some-level _ x (a .tree) (a .end) (a .reads))
 
-    module _ (v n : ℕ) (x : Shape (Head.Generic v n)) where
-      pub name-none : RightAlias (f .names) s v AliasAt.Nothing → Right (Value.Id 4294967295)
-      unfolding substitute valueOf leafValue RightAlias
-      name-none w ps ts st e end q chain l =
-          let p = parts Expression (f .names) s at levels h _ x e end q in
-          rw (p .1) (ap Value.Id (sym (applied-none (schemaOf s) v _ chain w)))
+  module _ (v n : ℕ) (x : Shape (Head.Generic v n)) where
+    pub name-none : RightAlias (f .names) s v AliasAt.Nothing → Right (Value.Id 4294967295)
+    unfolding substitute valueOf leafValue RightAlias
+    name-none w ps ts st e end q chain l =
+        let p = parts Expression (f .names) s at levels some-level _ x e end q in
+        rw (p .1) (ap Value.Id (sym (applied-none (schemaOf s) v _ chain w)))
 
-      -- the argument, and the target
-      pub body-asked : Asked s starts f finds places n (levels - 1) scope
-      body-asked =
-          let p = parts Expression (f .names) s at levels h _ x (a .tree) (a .end) (a .reads) in
-          record {
-            ready = a .ready;
-            few = omega (arith, a .few);
-            tree = p .0;
-            end = a .end;
-            reads = p .2;
-            known = known-argument scope places v (p .0) (subst (λ (u : Tree). KnownIn scope places u) (p .1) (a .known));
-          }
+    -- the argument, and the target
+    pub body-asked : Asked s starts f finds places n (levels - 1) scope
+    body-asked =
+        let p = parts Expression (f .names) s at levels some-level _ x (a .tree) (a .end) (a .reads) in
+        record {
+          ready = a .ready;
+          few = omega (arith, a .few);
+          tree = p .0;
+          end = a .end;
+          reads = p .2;
+          known = known-argument scope places v (p .0) (subst (λ (u : Tree). KnownIn scope places u) (p .1) (a .known));
+        }
 
-      pub body-less : rankAt (f .names) (levels - 1) s n ≤ rankAt (f .names) levels s at
-      body-less =
-          let p = parts Expression (f .names) s at levels h _ x (a .tree) (a .end) (a .reads) in
-          let y = rank-read (f .names) (levels - 1) s n (p .0) (a .end) (p .2) in
+    pub body-less : rankAt (f .names) (levels - 1) s n ≤ rankAt (f .names) levels s at
+    body-less =
+        let p = parts Expression (f .names) s at levels some-level _ x (a .tree) (a .end) (a .reads) in
+        let y = rank-read (f .names) (levels - 1) s n (p .0) (a .end) (p .2) in
+        let z = rank-read (f .names) levels s at (a .tree) (a .end) (a .reads) ∙ ap (rankOf (schemaOf s)) (p .1) in
+        omega (arith, argument-below (schemaOf s) v (p .0))
+
+    module _ (list target : ℕ) (w : RightAlias (f .names) s v (AliasAt.At list target)) where
+      pub target-asked : (inner : Value) (inside : Scope) → inside ≡ Scope.One list inner → Asked s starts f finds places target 32 inside
+      unfolding RightAlias
+      target-asked inner inside q =
+          record { ready = a .ready; few = omega arith; tree = w .1 .target; end = w .3; reads = w .7; known = known-one inside list inner places (w .1 .target) q }
+
+      pub target-less : rankAt (f .names) 32 s target < rankAt (f .names) levels s at
+      unfolding RightAlias
+      target-less =
+          let p = parts Expression (f .names) s at levels some-level _ x (a .tree) (a .end) (a .reads) in
+          let y = rank-read (f .names) 32 s target (w .1 .target) (w .3) (w .7) in
           let z = rank-read (f .names) levels s at (a .tree) (a .end) (a .reads) ∙ ap (rankOf (schemaOf s)) (p .1) in
-          omega (arith, argument-below (schemaOf s) v (p .0))
+          omega (arith, target-below (schemaOf s) (alias-ranked s starts f (a .ready .promise)) v (w .0) (w .1) (p .0) (w .4) (w .5))
 
-      module _ (list target : ℕ) (w : RightAlias (f .names) s v (AliasAt.At list target)) where
-        pub target-asked : (inner : Value) (inside : Scope) → inside ≡ Scope.One list inner → Asked s starts f finds places target 32 inside
-        unfolding RightAlias
-        target-asked inner inside q =
-            record { ready = a .ready; few = omega arith; tree = w .1 .target; end = w .3; reads = w .7; known = known-one inside list inner places (w .1 .target) q }
-
-        pub target-less : rankAt (f .names) 32 s target < rankAt (f .names) levels s at
-        unfolding RightAlias
-        target-less =
-            let p = parts Expression (f .names) s at levels h _ x (a .tree) (a .end) (a .reads) in
-            let y = rank-read (f .names) 32 s target (w .1 .target) (w .3) (w .7) in
-            let z = rank-read (f .names) levels s at (a .tree) (a .end) (a .reads) ∙ ap (rankOf (schemaOf s)) (p .1) in
-            omega (arith, target-below (schemaOf s) (alias-ranked s starts f (a .ready .promise)) v (w .0) (w .1) (p .0) (w .4) (w .5))
-
-        pub name-alias : (inner meant r : Value) → RightName (f .names) (levels - 1) s places n scope inner
-            → RightName (f .names) 32 s places target (Scope.One list inner) meant → r ≡ Value.Id (idOr meant) → Right r
-        unfolding substitute valueOf leafValue RightAlias Stands
-        name-alias inner meant r i j d ps ts st e end q chain l =
-            let p = parts Expression (f .names) s at levels h _ x e end q in
-            let k : rankOf (schemaOf s) (generic v (p .0)) ≤ chain = rw (← p .1) l in
-            let y = target-below (schemaOf s) (alias-ranked s starts f (a .ready .promise)) v (w .0) (w .1) (p .0) (w .4) (w .5) in
-            let z = argument-below (schemaOf s) v (p .0) in
-            rw (p .1) (d ∙ ap Value.Id (go (p .0) chain (omega arith) (i ps ts st (p .0) end (p .2) chain (omega arith))))
-          where
-            go : (u : Tree) (chain : ℕ) → rankOf (schemaOf s) (w .1 .target) < chain
-                → inner ≡ valueOf (substitute (schemaOf s) (applied (schemaOf s) chain) ps ts u)
-                → idOr meant ≡ applied (schemaOf s) chain v (substitute (schemaOf s) (applied (schemaOf s) chain) ps ts u)
-            go u zero k g = absurd (omega arith)
-            go u (suc c) k g =
-                ap idOr (j (w .1 .parameters) (substitute (schemaOf s) (applied (schemaOf s) (suc c)) ps ts u ∷ []) (w .2, _, w .6, refl, sym g) (w .1 .target) (w .3) (w .7) c (omega arith))
-                ∙ sym (applied-some (schemaOf s) v _ c (w .0) (w .1) (w .4) (w .5))
+      pub name-alias : (inner meant r : Value) → RightName (f .names) (levels - 1) s places n scope inner
+          → RightName (f .names) 32 s places target (Scope.One list inner) meant → r ≡ Value.Id (idOr meant) → Right r
+      unfolding substitute valueOf leafValue RightAlias Stands
+      name-alias inner meant r i j d ps ts st e end q chain l =
+          let p = parts Expression (f .names) s at levels some-level _ x e end q in
+          let k : rankOf (schemaOf s) (generic v (p .0)) ≤ chain = rw (← p .1) l in
+          let y = target-below (schemaOf s) (alias-ranked s starts f (a .ready .promise)) v (w .0) (w .1) (p .0) (w .4) (w .5) in
+          let z = argument-below (schemaOf s) v (p .0) in
+          rw (p .1) (d ∙ ap Value.Id (go (p .0) chain (omega arith) (i ps ts st (p .0) end (p .2) chain (omega arith))))
+        where
+          go : (u : Tree) (chain : ℕ) → rankOf (schemaOf s) (w .1 .target) < chain
+              → inner ≡ valueOf (substitute (schemaOf s) (applied (schemaOf s) chain) ps ts u)
+              → idOr meant ≡ applied (schemaOf s) chain v (substitute (schemaOf s) (applied (schemaOf s) chain) ps ts u)
+          go u zero k g = absurd (omega arith)
+          go u (suc c) k g =
+              ap idOr (j (w .1 .parameters) (substitute (schemaOf s) (applied (schemaOf s) (suc c)) ps ts u ∷ []) (w .2, _, w .6, refl, sym g) (w .1 .target) (w .3) (w .7) c (omega arith))
+              ∙ sym (applied-some (schemaOf s) v _ c (w .0) (w .1) (w .4) (w .5))

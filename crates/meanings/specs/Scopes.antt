@@ -27,20 +27,17 @@ pub record FindsHold (s finds : List ℕ) : Type 0 where
 
 -- the parameters and the types that a scope stands for; of an alias's one argument only which name it is, is known
 unfoldable pub Stands : (names : ℕ) → (s places : List ℕ) → Scope → (ps : List ℕ) → (ts : List Tree) → Type 0
-Stands names s places Scope.Plain ps ts = ⊥
 Stands names s places Scope.Types ps ts = Sound names s ps ts places
 Stands names s places (Scope.One p v) ps ts =
     (m : ℕ) × (t : Tree) × (read (counted (number name names)) s p ≡ done ps m) × (ts ≡ t ∷ []) × (valueOf t ≡ v)
 
 -- where parameters are looked up in the table, the names of an expression are there
 unfoldable pub KnownIn : Scope → (places : List ℕ) → Tree → Type 0
-KnownIn Scope.Plain places e = Unit {0}
 KnownIn Scope.Types places e = AtNames (Known places) e
 KnownIn (Scope.One p v) places e = Unit {0}
 
 -- a scope of which every type is known whole
 unfoldable pub Whole : Scope → Type 0
-Whole Scope.Plain = Unit {0}
 Whole Scope.Types = Unit {0}
 Whole (Scope.One p v) = ⊥
 

@@ -14,10 +14,9 @@ ghost use Rattle.findings.specs.declared.Value.{Value};
 ghost use Rattle.meanings.specs.Places.{codeOf, RightFirst, RightArgumentIn, RightArgument, RightNote, RightLook};
 ghost use Rattle.meanings.specs.Scopes.{RightAlias, RightParameter, RightMeaning, RightLeaf, RightValue, RightName, Ready, Asked};
 
-// What names stand for. Plain: names are ids. Types: parameters, by the table of places. One: an alias's parameters at a
-// place, and its one argument, of which only is known which name it is.
+// What names stand for. Types: parameters, by the table of places. One: an alias's parameters at a place, and its one
+// argument, of which only is known which name it is.
 pub enum Scope {
-    Plain,
     Types,
     One(usize, Value),
 }
@@ -85,7 +84,7 @@ fn place(places: &[u32], n: u64) -> u64
 }
 
 // The id that a name is resolved to.
-pub fn resolve(finds: &[u16], n: u64) -> u64
+fn resolve(finds: &[u16], n: u64) -> u64
     ensures { λ r. ⌜ r ≡ idFound (getD (now (finds .entry)) n 0) ⌝ }
 {
     let found = find(finds, n);
@@ -156,14 +155,7 @@ fn argument_in(
 }
 
 // The argument of a name: the parameters stand at one place behind their count, the types from another on.
-pub fn argument(
-    image: &[u8],
-    params: usize,
-    start: usize,
-    arguments: u64,
-    names: u64,
-    n: u64,
-) -> Found
+fn argument(image: &[u8], params: usize, start: usize, arguments: u64, names: u64, n: u64) -> Found
     ensures { λ r. ⌜ RightArgument names (now (image .entry)) params start arguments n r ⌝ }
 {
     match number::read_below(image, params, 65537) {
@@ -281,7 +273,6 @@ fn parameter_meaning(
     ensures { λ r. ⌜ RightParameter names (now (image .entry)) (now (finds .entry)) (now (places .entry)) scope n r ⌝ }
 {
     match scope {
-        Scope::Plain => Meaning::Itself,
         Scope::Types => {
             let code = place(places, n);
             if code < 2 {
@@ -411,9 +402,6 @@ pub fn name_of(
     requires { ⌜ Asked (now image) (now starts) frame (now finds) (now places) at levels scope ⌝ }
     ensures { λ r. ⌜ RightName (frame .names) levels (now (image .entry)) (now (places .entry)) at scope r ⌝ }
 {
-    if levels == 0 {
-        return Value::NotName;
-    }
     let names = frame.names;
     match tree::read_head(image, at, Sort::Expression, names) {
         Head::Leaf(kind, _, v, _) => leaf_value(image, finds, places, names, kind, v, scope),
