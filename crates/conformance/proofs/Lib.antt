@@ -3,3 +3,4 @@ pub mod Adding
 pub mod Required
 pub mod Targets
 pub mod Slots
+pub mod Having

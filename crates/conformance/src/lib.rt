@@ -8,13 +8,16 @@ ghost use mathlib.Core.Path.{_≡_};
 ghost use mathlib.Core.List.{[], _∷_};
 ghost use mathlib.Core.Bool.{cond};
 ghost use Prim.Native.Nat.{ℕ, _<_, _≤_, _^_};
+ghost use lib.Dec.{eqb};
 ghost use Rattle.number.specs.Grammar.{done, read};
-ghost use Rattle.slot.specs.Slot.{Impl, implAt, Trait, traitAt};
+ghost use Rattle.slot.specs.Slot.{Impl, implAt, Trait, traitAt, slotKind};
+ghost use Rattle.image.specs.Schema.{slotOf};
+ghost use Rattle.image.specs.declared.Frame.{Frame};
 ghost use Rattle.reader.specs.Reading.{schemaOf};
 ghost use Rattle.reader.specs.Promise.{Promise};
 ghost use Rattle.view.specs.Part.{partAt};
 ghost use Rattle.view.specs.declared.Part.{Part};
-ghost use Rattle.findings.specs.Conformance.{lacking, conforming, conformanceOf};
+ghost use Rattle.findings.specs.Conformance.{lacking, conforming, conformanceOf, hasImpl};
 ghost use Rattle.conformance.specs.Parts.{Takes, SpanIs, ImplIs, TraitIs};
 ghost use Rattle.conformance.specs.Adding.{Adds, ownFinding, targetFindings, slotFindings, SlotAsked, Paired, Targeted};
 
@@ -372,4 +375,29 @@ pub fn check_impl_conformance(
         i += 1;
     }
     n
+}
+
+fn is_impl(image: &[u8], starts: &[usize], slot: usize) -> bool
+    ensures { λ r. ⌜ ((f : Frame) → Promise (now (image .entry)) (now (starts .entry)) f → slot < f .slots → r ≡ eqb (slotKind (slotOf (schemaOf (now (image .entry))) slot)) 9) ⌝ }
+{
+    match view::slot_part(image, starts, slot) {
+        Part::At(kind, _) => kind == 9,
+        Part::Missing => false,
+    }
+}
+
+// Is there an impl? Most images have none.
+pub fn has_impls(image: &[u8], starts: &[usize], frame: Frame) -> bool
+    requires { ⌜ Promise (now image) (now starts) frame ⌝ }
+    ensures { λ r. ⌜ r ≡ hasImpl (schemaOf (now (image .entry)) .slots) ⌝ }
+{
+    let slots = frame.slots as usize;
+    let mut i: usize = 0;
+    while i < slots {
+        if is_impl(image, starts, i) {
+            return true;
+        }
+        i += 1;
+    }
+    false
 }

@@ -7,7 +7,7 @@ use lib.Dec.{eqb}
 use lib.ListN.{length}
 use Rattle.tree.specs.Tree.{Tree}
 use Rattle.slot.specs.Field.{Span, Field}
-use Rattle.slot.specs.Slot.{Slot, empty, Message, message, enum, flags, union, newtype, config, alias, Trait, TraitField, trait, Impl, impl}
+use Rattle.slot.specs.Slot.{Slot, empty, Message, message, enum, flags, union, newtype, config, alias, Trait, TraitField, trait, Impl, impl, slotKind}
 use Rattle.image.specs.Schema.{Schema, slotOf}
 use Rattle.findings.specs.Finding.{finding}
 use Rattle.findings.specs.Meaning.{slotFound, valueOf, meaningOf}
@@ -92,3 +92,8 @@ implFindings S i (trait t) = []
 unfoldable pub conformanceOf : Schema → (slot : ℕ) → List Slot → List Finding
 conformanceOf S i [] = []
 conformanceOf S i (x ∷ xs) = implFindings S i x ++ conformanceOf S (suc i) xs
+
+-- whether one of the slots holds an impl
+unfoldable pub hasImpl : List Slot → Bool
+hasImpl [] = false
+hasImpl (x ∷ xs) = cond (eqb (slotKind x) 9) true (hasImpl xs)

@@ -2,9 +2,7 @@
 use Prim.Native.Nat.{ℕ, _+_, _≤_, _<_}
 use mathlib.Core.Path.{_≡_, refl, sym, ap, _∙_}
 use mathlib.Core.List.{List, []}
-use mathlib.Core.Bool.{false}
 use native.Mathlib.Omega.{arith}
-use native.Mathlib.Decide.{decLt}
 use borrow.Author.Tests.{lt-ltb}
 use lib.ListN.{length, getD, replicate}
 use Rattle.number.specs.Grammar.{kind, name, Grammar, give, _>>=_, number, counted, Outcome, done, read}
@@ -16,14 +14,13 @@ use Rattle.tree.specs.declared.Sort.the-variants.{Resolved, Expression}
 use Rattle.slot.specs.Field.{typeAt, expressionAt}
 use Rattle.slot.specs.Slot.{Slot, empty, message, enum, flags, union, newtype, newtypeAt, config, alias, aliasAt, trait, impl, slotKind, made, slotBodyAt, slotAt}
 use Rattle.slot.proofs.Whole.{made-of, slot-parts}
-use Rattle.graph.specs.Ways.{Path, step, onto, lowestLooped, has}
+use Rattle.graph.specs.Ways.{lowestLooped, has}
 use Rattle.graph.specs.Table.{grid, grid-zeros}
-use Rattle.graph.specs.Loops.{not-both, looped-same}
+use Rattle.graph.specs.Loops.{looped-same}
 use Rattle.graph.specs.declared.Lowest.{Lowest}
 use Rattle.graph.proofs.Rows.{at-same, grown-as, turns-start, turns-on}
 use Rattle.loops.specs.Leads.{treeSlots, slotLeads, leads, loopOf, slotsOf, Located}
 use Rattle.loops.specs.Marks.{leadKind, Leading, TreeStart, placeOf, TreeMarked, SlotMarked, Filled}
-use Rattle.loops.specs.Refusals.{slots-past, is-not-looped}
 use Rattle.loops.specs.declared.Body.{Body}
 use Rattle.loops.proofs.Marking.{led-none, led-as, ends}
 
@@ -58,7 +55,7 @@ module _ (s : List ℕ) (at start : ℕ) where
         (p .1, p .3, λ finds. ap (slotLeads Expression finds) (p .2))
 
 -- a slot of another kind leads nowhere
-other-kind : (sort : Sort) (finds : List ℕ) (x : Slot) → (slotKind x ≡ leadKind sort → ⊥) → [] ≡ slotLeads sort finds x
+pub other-kind : (sort : Sort) (finds : List ℕ) (x : Slot) → (slotKind x ≡ leadKind sort → ⊥) → [] ≡ slotLeads sort finds x
 unfolding slotLeads
 other-kind sort finds empty h = refl
 other-kind sort finds (message m) h = refl
@@ -91,6 +88,10 @@ module _ (sort : Sort) (finds : List ℕ) (names : ℕ) (s : List ℕ) where
     row-none len h x end e = led-none row len (not-leading at x end h e)
 
 -- the slots of an image
+pub slot-is : (names count : ℕ) (s starts : List ℕ) (i : ℕ) → i < count → (x : Slot) (end : ℕ) → read (slotAt names) s (getD starts i 0) ≡ done x end → slotsOf names count s starts i ≡ x
+unfolding slotsOf
+slot-is names count s starts i l x end e = rw (lt-ltb i count l, e)
+
 module _ (sort : Sort) (names count : ℕ) (finds s starts : List ℕ) where
   abbrev S : ℕ → Slot
   S = slotsOf names count s starts
@@ -102,38 +103,13 @@ module _ (sort : Sort) (names count : ℕ) (finds s starts : List ℕ) where
   rows-start m len = (omega arith, turns-start (λ a b. a) (leads sort finds S) m len)
 
   module _ (p : Located names count s starts) where
-    slot-is : (i : ℕ) → i < count → (x : Slot) (end : ℕ) → read (slotAt names) s (getD starts i 0) ≡ done x end → S i ≡ x
-    unfolding slotsOf
-    slot-is i l x end e = rw (lt-ltb i count l, e)
-
     pub rows-on : (m₀ m m′ : List ℕ) (i : ℕ) → i < count → Rows m₀ i m → SlotMarked sort names finds i s (getD starts i 0) m m′ → Rows m₀ (i + 1) m′
     unfolding leads
     rows-on m₀ m m′ i l r w =
         let q = p .reads i l in
-        let y = ap (slotLeads sort finds) (sym (slot-is i l (q .0) (q .1) (q .2))) in
+        let y = ap (slotLeads sort finds) (sym (slot-is names count s starts i l (q .0) (q .1) (q .2))) in
         let g = grown-as (led-as i y (w (q .0) (q .1) (q .2))) (λ a b u v. at-same a i (λ z. has b (slotLeads sort finds (S z)))) in
         (omega arith, turns-on (λ a b. a) (leads sort finds S) m₀ i m m′ (r .1) g)
-
-    -- where no slot is of the kind that leads on
-    module _ (h : (i : ℕ) → i < count → Leading sort s (getD starts i 0) Body.Nothing) where
-      leads-nowhere : (i j : ℕ) → leads sort finds S i j ≡ false
-      unfolding leads slotLeads has
-      leads-nowhere i j = go (decLt i count)
-        where
-          go : Dec (i < count) → leads sort finds S i j ≡ false
-          go (yes l) =
-              let q = p .reads i l in
-              ap (has j)
-              (ap (slotLeads sort finds) (slot-is i l (q .0) (q .1) (q .2))
-              ∙ sym (not-leading sort finds names s (getD starts i 0) (q .0) (q .1) (h i l) (q .2)))
-          go (no l) = ap (λ (x : Slot). has j (slotLeads sort finds x)) (slots-past names count s starts i (omega arith))
-
-      no-path : {a b : ℕ} → Path (leads sort finds S) a b → ⊥
-      no-path (step e) = not-both _ e (leads-nowhere _ _)
-      no-path (onto e r) = not-both _ e (leads-nowhere _ _)
-
-      pub nothing-looped : Lowest.Nowhere ≡ loopOf sort finds S count
-      nothing-looped = sym (is-not-looped sort finds S count (slots-past names count s starts) (λ j r. no-path r))
 
   pub rows-end : (m₀ m : List ℕ) (i : ℕ) → count ≤ i → Rows m₀ i m → Filled m₀ (leads sort finds S) count m
   rows-end m₀ m i h r = let z : i ≡ count = omega (arith, r .0) in rw z at (r .1)

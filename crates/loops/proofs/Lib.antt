@@ -1,3 +1,4 @@
 mod Marking
 mod Filling
+pub mod Leading
 pub mod Finding

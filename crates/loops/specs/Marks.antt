@@ -1,5 +1,5 @@
 -- What the code's steps say: where a slot's tree is, which kinds are gone into, and the marks of a row.
-use Prim.Native.Nat.{ℕ}
+use Prim.Native.Nat.{ℕ, zero, suc}
 use mathlib.Core.Path.{_≡_}
 use mathlib.Core.List.{List, [], _∷_}
 use mathlib.Core.Bool.{Bool, true, not, _&&_}
@@ -11,7 +11,7 @@ use Rattle.tree.specs.Tree.{Tree}
 use Rattle.tree.specs.TreeAt.{treeAt}
 use Rattle.tree.specs.declared.Sort.{Sort}
 use Rattle.tree.specs.declared.Sort.the-variants.{Resolved, Expression}
-use Rattle.slot.specs.Slot.{Slot, slotBodyAt, slotAt}
+use Rattle.slot.specs.Slot.{Slot, slotKind, slotBodyAt, slotAt}
 use Rattle.graph.specs.Ways.{Leads, has}
 use Rattle.graph.specs.Table.{Grown}
 use Rattle.loops.specs.Leads.{found, treeSlots, slotLeads}
@@ -21,6 +21,11 @@ use Rattle.loops.specs.declared.Body.{Body}
 abbrev pub leadKind : Sort → ℕ
 leadKind Resolved = 5
 leadKind Expression = 7
+
+-- is none of the first `count` slots of that kind
+unfoldable pub noneLeads : Sort → (slots : ℕ → Slot) → (count : ℕ) → Bool
+noneLeads sort slots zero = true
+noneLeads sort slots (suc n) = noneLeads sort slots n && not (eqb (slotKind (slots n)) (leadKind sort))
 
 -- how many names are looked up: types look up none
 abbrev pub usedNames : Sort → (names : ℕ) → ℕ

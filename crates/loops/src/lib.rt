@@ -7,13 +7,12 @@ use tree::Head;
 use tree::Sort;
 ghost use mathlib.Core.Path.{_≡_};
 ghost use mathlib.Core.List.{List};
-ghost use mathlib.Core.Bool.{true};
 ghost use Prim.Native.Nat.{ℕ, _<_, _≤_};
-ghost use lib.ListN.{length, getD};
+ghost use lib.ListN.{length};
 ghost use Rattle.number.specs.Grammar.{slot, number, many, done, read};
 ghost use Rattle.tree.specs.Tree.{Leaf, leaf, leafKind, leafNumber};
 ghost use Rattle.loops.specs.Leads.{treeSlots, leads, loopOf, slotsOf, Located};
-ghost use Rattle.loops.specs.Marks.{leadKind, usedNames, Leading, TreeStart, enters, nameSlots, placeOf, Led, TreeMarked, SlotMarked, Filled};
+ghost use Rattle.loops.specs.Marks.{leadKind, noneLeads, usedNames, Leading, TreeStart, enters, nameSlots, placeOf, Led, TreeMarked, SlotMarked, Filled};
 
 // Where a cursor stands. The image was read before, so that no refusal is met.
 fn place(cursor: Next) -> usize
@@ -202,10 +201,10 @@ fn fill_rows(
     }
 }
 
-// Its caller only leans on the answer `true`.
-fn none_leads(image: &[u8], starts: &[usize], count: usize, sort: Sort) -> bool
-    requires { ⌜ count ≤ length (now starts) ⌝ }
-    ensures { λ r. ⌜ (r ≡ true → (i : ℕ) → i < count → Leading sort (now (image .entry)) (getD (now (starts .entry)) i 0) Body.Nothing) ⌝ }
+// Is no slot of the kind that leads on? Then none is on a loop.
+pub fn none_leads(image: &[u8], starts: &[usize], count: usize, sort: Sort) -> bool
+    requires { ⌜ ((names : ℕ) × Located names count (now image) (now starts)) ⌝ }
+    ensures { λ r. ⌜ ((names : ℕ) → Located names count (now (image .entry)) (now (starts .entry)) → r ≡ noneLeads sort (slotsOf names count (now (image .entry)) (now (starts .entry))) count) ⌝ }
 {
     let mut i: usize = 0;
     while i < count {
@@ -221,7 +220,7 @@ fn none_leads(image: &[u8], starts: &[usize], count: usize, sort: Sort) -> bool
     true
 }
 
-// The same, once it is known that some slot may lead on.
+// The lowest slot on a loop, once what the names find stands in a table.
 fn looped_in(
     image: &[u8],
     starts: &[usize],
@@ -249,7 +248,7 @@ fn names_used(names: u64, sort: Sort) -> u64
 }
 
 // The lowest slot on a loop: of newtypes by their terminal types, of aliases by the generics of their targets. What the
-// names find stands at `finds`. Most images have no slot that could be on a loop, and need no table.
+// names find stands at `finds`.
 pub fn lowest_looped(
     image: &[u8],
     starts: &[usize],
@@ -261,9 +260,6 @@ pub fn lowest_looped(
     requires { ⌜ (names ≤ 4096) × Located names count (now image) (now starts) ⌝ }
     ensures { λ r. ⌜ ((fs : List ℕ) (n : ℕ) → read (many names (number slot 513)) (now (image .entry)) finds ≡ done fs n → r ≡ loopOf sort fs (slotsOf names count (now (image .entry)) (now (starts .entry))) count) ⌝ }
 {
-    if none_leads(image, starts, count, sort) {
-        return Lowest::Nowhere;
-    }
     let used = names_used(names, sort);
     let mut table = [0u16; 4096];
     image::read_finds(image, finds, used, &mut table);

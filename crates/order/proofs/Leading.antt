@@ -12,17 +12,18 @@ use lib.Seq.{drop-nil, drop-cons}
 use types.Run.{OneOf}
 use denote.Enum.Declared.{tagOf}
 use borrow.Author.Tests.{ltb-true, ltb-false, lt-ltb, le-ltb}
-use Rattle.number.specs.Grammar.{many, done, refused, below, read}
+use Rattle.number.specs.Grammar.{many, Outcome, done, refused, below, read}
 use Rattle.number.specs.Answers.{next, follow}
 use Rattle.number.specs.declared.Next.{Next}
 use Rattle.number.proofs.Reading.{given, not-done, front, counted-on, counted-refused}
 use Rattle.tree.specs.Tree.{Tree, Leaf, leafKind, leafNumber, primitive, subByte, semantic, named, bitsInline, qualified}
-use Rattle.tree.specs.TreeAt.{headAt, shape}
+use Rattle.tree.specs.TreeAt.{Node, none, one, two, sized, applied, headAt, shape}
 use Rattle.tree.specs.Encoding.{encodingAt}
 use Rattle.tree.specs.declared.Sort.the-variants.{Resolved}
 use Rattle.tree.specs.declared.Head.{Head}
 use Rattle.tree.proofs.Head as heads
 use Rattle.tree.proofs.Shapes.{parts}
+use Rattle.tree.proofs.Nodes.{head-parts}
 use Rattle.slot.specs.Field.{typeAt, Field, fieldAt, fieldsAt}
 use Rattle.slot.specs.Slot.{Slot, empty, message, enum, flags, union, newtype, config, alias, trait, impl, slotKind, Message, messageAt, newtypeAt, slotBodyAt}
 use Rattle.slot.specs.Short.{shortAt, shortLeaf}
@@ -32,7 +33,7 @@ use Rattle.slot.proofs.Whole.{made-of}
 use Rattle.image.specs.Schema.{Schema, slotOf}
 use Rattle.view.proofs.Places.{inner-stands, type-stands}
 use Rattle.view.proofs.Fetching.{Behind, body-at}
-use Rattle.order.specs.Order.{holdsBare, rank, leadsOn, bareLeaf, bareType, bareFields, bareSlot, inOrder, ordered}
+use Rattle.order.specs.Order.{holdsBare, rank, leadsOn, bareLeaf, bareType, bareFields, bareSlot, inOrder, ordered, isOrdered}
 
 -- ## A name
 
@@ -131,9 +132,12 @@ module _ (test : ℕ → Bool) (names : ℕ) (s : List ℕ) where
         let p = parts Resolved names s at 32 (λ z. omega arith) _ q t end e in
         (w (p .0) (p .2) (p .4) ∙ sym (ap (bareType test) (p .1)), p .5)
 
+    -- the type at a place is no bare name that fails the test
+    abbrev pub Passes : Type 0
+    Passes = (t : Tree) (end : ℕ) → read (typeAt names) s at ≡ done t end → bareType test t ≡ true
+
     -- a head that is no leaf's
-    not-leaf : (x : Head) → OneOf (1 ∷ 2 ∷ 3 ∷ 4 ∷ 5 ∷ []) (tagOf heads.the-type x) → shape (read (headAt Resolved names) s at) ≡ x
-        → (t : Tree) (end : ℕ) → read (typeAt names) s at ≡ done t end → true ≡ bareType test t
+    pub not-leaf : (x : Head) → OneOf (1 ∷ 2 ∷ 3 ∷ 4 ∷ 5 ∷ []) (tagOf heads.the-type x) → shape (read (headAt Resolved names) s at) ≡ x → Passes
     unfolding bareType
     not-leaf (Head.Leaf k g v n) h q t end e = absurd (none h)
       where
@@ -143,15 +147,30 @@ module _ (test : ℕ → Bool) (names : ℕ) (s : List ℕ) where
         none (inr (inr (inl a))) = omega arith
         none (inr (inr (inr (inl a)))) = omega arith
         none (inr (inr (inr (inr a)))) = omega arith
-    not-leaf (Head.One k n) h q t end e = let p = parts Resolved names s at 32 (λ z. omega arith) _ q t end e in sym (ap (bareType test) (p .2))
-    not-leaf (Head.Two k n) h q t end e = let p = parts Resolved names s at 32 (λ z. omega arith) _ q t end e in sym (ap (bareType test) (p .4))
-    not-leaf (Head.Sized n) h q t end e = let p = parts Resolved names s at 32 (λ z. omega arith) _ q t end e in sym (ap (bareType test) (p .3))
-    not-leaf (Head.Generic v n) h q t end e = let p = parts Resolved names s at 32 (λ z. omega arith) _ q t end e in sym (ap (bareType test) (p .1))
+    not-leaf (Head.One k n) h q t end e = let p = parts Resolved names s at 32 (λ z. omega arith) _ q t end e in ap (bareType test) (p .2)
+    not-leaf (Head.Two k n) h q t end e = let p = parts Resolved names s at 32 (λ z. omega arith) _ q t end e in ap (bareType test) (p .4)
+    not-leaf (Head.Sized n) h q t end e = let p = parts Resolved names s at 32 (λ z. omega arith) _ q t end e in ap (bareType test) (p .3)
+    not-leaf (Head.Generic v n) h q t end e = let p = parts Resolved names s at 32 (λ z. omega arith) _ q t end e in ap (bareType test) (p .1)
     not-leaf (Head.Refused r n) h q t end e = absurd (parts Resolved names s at 32 (λ z. omega arith) _ q t end e)
 
-    pub led-other : (x : Head) → x ≡ shape (read (headAt Resolved names) s at) → OneOf (1 ∷ 2 ∷ 3 ∷ 4 ∷ 5 ∷ []) (tagOf heads.the-type x)
-        → (a : Next) (n : ℕ) → a ≡ next (read (typeAt names) s at) → ((k : ℕ) → a ≡ Next.At k → n ≡ k) → LedType at true n
-    led-other x q h a n f w t end e = (not-leaf x h (sym q) t end e, w end (f ∙ ap next e))
+    -- a kind that is not a name's
+    pub not-name : (k n : ℕ) → below 17 s at ≡ done k n → (k ≡ 3 → ⊥) → Passes
+    unfolding bareType
+    not-name k n q h t end e = go (read (headAt Resolved names) s at) refl
+      where
+        go : (o : Outcome Node) → read (headAt Resolved names) s at ≡ o → bareType test t ≡ true
+        go (done (none l) m) f =
+            let p = parts Resolved names s at 32 (λ z. omega arith) _ (ap shape f) t end e in
+            let w = given (sym (head-parts s Resolved names at (none l) m f .kindRead) ∙ q) .0 in
+            ap (bareType test) (p .1) ∙ sym (leaf-other test (p .0) k (p .2 ∙ w) h)
+        go (done (one w) m) f = not-leaf _ (inl refl) (ap shape f) t end e
+        go (done (two w) m) f = not-leaf _ (inr (inl refl)) (ap shape f) t end e
+        go (done sized m) f = not-leaf _ (inr (inr (inl refl))) (ap shape f) t end e
+        go (done (applied v) m) f = not-leaf _ (inr (inr (inr (inl refl)))) (ap shape f) t end e
+        go (refused r p) f = not-leaf _ (inr (inr (inr (inr refl)))) (ap shape f) t end e
+
+    pub led-other : Passes → (a : Next) (n : ℕ) → a ≡ next (read (typeAt names) s at) → ((k : ℕ) → a ≡ Next.At k → n ≡ k) → LedType at true n
+    led-other h a n f w t end e = (sym (h t end e), w end (f ∙ ap next e))
 
 -- ## A field
 
@@ -296,3 +315,13 @@ module _ (up : Bool) (S : Schema) where
 
       pub sofar-stop : r ≡ false → false ≡ ordered up S
       sofar-stop e = sym (rw e at step)
+
+-- either way
+module _ (S : Schema) where
+  pub ordered-down : true ≡ ordered false S → true ≡ isOrdered S
+  unfolding isOrdered
+  ordered-down e = rw (← e)
+
+  pub ordered-up : false ≡ ordered false S → (r : Bool) → r ≡ ordered true S → r ≡ isOrdered S
+  unfolding isOrdered
+  ordered-up e r q = rw (← e) q

@@ -3,7 +3,7 @@ use Prim.Native.Nat.{ℕ, zero, suc, _+_}
 use mathlib.Core.Path.{_≡_, refl, sym, ap, _∙_}
 use mathlib.Core.List.{List, [], _∷_}
 use mathlib.Core.Logic.{by-cases}
-use mathlib.Core.Bool.{Bool, true, false, cond, true≢false}
+use mathlib.Core.Bool.{Bool, true, false, cond, _||_, true≢false}
 use native.Mathlib.Omega.{arith}
 use native.Mathlib.Nat.{zero-add, add-zero, suc-add, add-suc}
 use native.Mathlib.Decide.{ℕ-discrete}
@@ -18,7 +18,7 @@ use Rattle.image.specs.Schema.{Schema, slotOf}
 use Rattle.findings.specs.Finding.{finding}
 use Rattle.findings.specs.Endless.{counted, entered, left, Walk, walkLeaf, walkType, walkFields, walkVariants, walkSlot, walkName, start, endlessIn, endlessAt, endlessOf}
 use Rattle.findings.specs.declared.RecursionState.{RecursionState}
-use Rattle.order.specs.Order.{holdsBare, rank, leadsOn, bareLeaf, bareType, bareFields, bareSlot, inOrder, ordered}
+use Rattle.order.specs.Order.{holdsBare, rank, leadsOn, bareLeaf, bareType, bareFields, bareSlot, inOrder, ordered, isOrdered}
 
 -- a walk that found nothing and left the path as it was
 record Same (st r : RecursionState) : Type 0 where
@@ -162,7 +162,15 @@ module _ (up : Bool) (S : Schema) where
     none-at i (trait x) e = refl
     none-at i (impl x) e = refl
 
-pub none-endless : (up : Bool) (S : Schema) → ordered up S ≡ true → (ds : List ℕ) → endlessOf S ds ≡ []
+none-endless : (up : Bool) (S : Schema) → ordered up S ≡ true → (ds : List ℕ) → endlessOf S ds ≡ []
 unfolding endlessOf ordered slotOf
 none-endless up S o [] = refl
 none-endless up S o (i ∷ ds) = rw (none-at up S (λ k. rw zero-add at (all-ordered up S 0 (S .slots) o k)) i (slotOf S i) refl, none-endless up S o ds)
+
+pub none-in-order : (S : Schema) → isOrdered S ≡ true → (ds : List ℕ) → endlessOf S ds ≡ []
+unfolding isOrdered
+none-in-order S o ds = go (ordered false S) refl o
+  where
+    go : (b : Bool) → ordered false S ≡ b → (b || ordered true S) ≡ true → endlessOf S ds ≡ []
+    go true e h = none-endless false S e ds
+    go false e h = none-endless true S h ds

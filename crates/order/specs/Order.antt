@@ -2,7 +2,7 @@
 -- before its own, or each to one after it. Where they do, no message holds itself.
 use Prim.Native.Nat.{ℕ, suc, _-_}
 use mathlib.Core.List.{List, [], _∷_}
-use mathlib.Core.Bool.{Bool, true, false, cond}
+use mathlib.Core.Bool.{Bool, true, false, cond, _||_}
 use lib.Dec.{ltb}
 use Rattle.tree.specs.Tree.{Tree, Leaf, leaf, wrap, fixedArray, pair, generic, primitive, subByte, semantic, named, bitsInline, qualified}
 use Rattle.slot.specs.Field.{Field}
@@ -70,3 +70,7 @@ inOrder up S i (x ∷ xs) = cond (bareSlot (leadsOn up S i) x) (inOrder up S (su
 
 unfoldable pub ordered : (up : Bool) → Schema → Bool
 ordered up S = inOrder up S 0 (S .slots)
+
+-- in one of the two directions
+unfoldable pub isOrdered : Schema → Bool
+isOrdered S = ordered false S || ordered true S

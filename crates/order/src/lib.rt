@@ -9,6 +9,7 @@ use tree::Sort;
 use view::Part;
 ghost use mathlib.Core.Path.{_≡_};
 ghost use mathlib.Core.List.{List};
+ghost use mathlib.Core.Bool.{Bool, true, false};
 ghost use Prim.Native.Nat.{ℕ, _<_};
 ghost use lib.Dec.{ltb};
 ghost use Rattle.number.specs.Grammar.{done, read};
@@ -17,7 +18,7 @@ ghost use Rattle.slot.specs.Field.{typeAt, Field, fieldAt, fieldsAt};
 ghost use Rattle.image.specs.Schema.{slotOf};
 ghost use Rattle.reader.specs.Reading.{schemaOf};
 ghost use Rattle.reader.specs.Promise.{Promise};
-ghost use Rattle.order.specs.Order.{rank, leadsOn, bareLeaf, bareType, bareFields, bareSlot, ordered};
+ghost use Rattle.order.specs.Order.{rank, leadsOn, bareLeaf, bareType, bareFields, bareSlot, ordered, isOrdered};
 
 // Whether the bare name of a type, if it is one, leads on; and the position after the type.
 struct Led {
@@ -69,6 +70,16 @@ fn leaf_leads_on(
     true
 }
 
+// Whether a type's kind is that of a bare name. Its caller only leans on the answer `false`.
+fn is_name(image: &[u8], at: usize) -> bool
+    ensures { λ r. ⌜ (r ≡ false → (test : ℕ → Bool) (names : ℕ) (t : Tree) (end : ℕ) → read (typeAt names) (now (image .entry)) at ≡ done t end → bareType test t ≡ true) ⌝ }
+{
+    match number::read_below(image, at, 17) {
+        Ranged::Value(kind, _) => kind == 3,
+        Ranged::Refused(_, _) => true,
+    }
+}
+
 fn type_leads_on(
     image: &[u8],
     starts: &[usize],
@@ -80,14 +91,16 @@ fn type_leads_on(
     requires { ⌜ Promise (now image) (now starts) frame × (slot < frame .slots) ⌝ }
     ensures { λ r. ⌜ ((t : Tree) (end : ℕ) → read (typeAt (frame .names)) (now (image .entry)) at ≡ done t end → (r .ok ≡ bareType (leadsOn up (schemaOf (now (image .entry))) slot) t) × (r .next ≡ end)) ⌝ }
 {
-    if let Head::Leaf(kind, _, number, next) = tree::read_head(
-        image,
-        at,
-        Sort::Resolved,
-        frame.names,
-    ) {
-        let ok = leaf_leads_on(image, starts, frame, up, slot, kind, number);
-        return Led { ok, next };
+    if is_name(image, at) {
+        if let Head::Leaf(kind, _, number, next) = tree::read_head(
+            image,
+            at,
+            Sort::Resolved,
+            frame.names,
+        ) {
+            let ok = leaf_leads_on(image, starts, frame, up, slot, kind, number);
+            return Led { ok, next };
+        }
     }
     let next = view::place_of(tree::read_tree(image, at, 32, Sort::Resolved, frame.names));
     Led { ok: true, next }
@@ -177,8 +190,8 @@ fn slot_leads_on(image: &[u8], starts: &[usize], frame: Frame, up: bool, slot: u
     }
 }
 
-// Do the slots stand in an order: by bare names that lead to earlier slots, or `up`, to later ones?
-pub fn is_ordered(image: &[u8], starts: &[usize], frame: Frame, up: bool) -> bool
+// Do all bare names lead to earlier slots, or `up`, to later ones?
+fn goes_one_way(image: &[u8], starts: &[usize], frame: Frame, up: bool) -> bool
     requires { ⌜ Promise (now image) (now starts) frame ⌝ }
     ensures { λ r. ⌜ r ≡ ordered up (schemaOf (now (image .entry))) ⌝ }
 {
@@ -192,4 +205,15 @@ pub fn is_ordered(image: &[u8], starts: &[usize], frame: Frame, up: bool) -> boo
         }
     }
     true
+}
+
+// Do the slots stand in an order: by bare names that all lead to earlier slots, or all to later ones?
+pub fn is_ordered(image: &[u8], starts: &[usize], frame: Frame) -> bool
+    requires { ⌜ Promise (now image) (now starts) frame ⌝ }
+    ensures { λ r. ⌜ r ≡ isOrdered (schemaOf (now (image .entry))) ⌝ }
+{
+    if goes_one_way(image, starts, frame, false) {
+        return true;
+    }
+    goes_one_way(image, starts, frame, true)
 }

@@ -77,13 +77,18 @@ fn judge(image: &[u8], starts: &[usize], frame: Frame) -> Reading
     if let Lowest::At(n) = lost_name(image, starts, count, names, finds) {
         return Reading::Refused(7, n);
     }
-    let newtype = loops::lowest_looped(image, starts, count, names, finds, Sort::Resolved);
-    if let Lowest::At(i) = newtype {
-        return Reading::Refused(8, i);
+    // Most images have no slot that could be on a loop, and need no table.
+    if !loops::none_leads(image, starts, count, Sort::Resolved) {
+        let newtype = loops::lowest_looped(image, starts, count, names, finds, Sort::Resolved);
+        if let Lowest::At(i) = newtype {
+            return Reading::Refused(8, i);
+        }
     }
-    let alias = loops::lowest_looped(image, starts, count, names, finds, Sort::Expression);
-    if let Lowest::At(i) = alias {
-        return Reading::Refused(9, i);
+    if !loops::none_leads(image, starts, count, Sort::Expression) {
+        let alias = loops::lowest_looped(image, starts, count, names, finds, Sort::Expression);
+        if let Lowest::At(i) = alias {
+            return Reading::Refused(9, i);
+        }
     }
     Reading::Accepted(frame)
 }

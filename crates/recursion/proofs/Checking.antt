@@ -21,8 +21,6 @@ use Rattle.findings.specs.declared.Finding.{Finding}
 use Rattle.parts.specs.Names.{isMessage}
 use Rattle.parts.specs.Lists.{Listable, Tabled}
 use Rattle.parts.proofs.Tabling.{all-fit}
-use Rattle.order.specs.Order.{ordered}
-use Rattle.order.proofs.Ranks.{none-endless}
 use Rattle.walks.specs.Walk.{Held, Counted}
 use Rattle.walks.proofs.Holding.{held}
 use Rattle.recursion.specs.Recursion.{Ready, Checked, Roomy, Tables, Takes, FindingAt, Adds}
@@ -236,12 +234,10 @@ module _ (s before : List ℕ) (left p count : ℕ) (now : List ℕ) (t : Turn s
       let w : endlessOf (schemaOf s) (schemaOf s .declared) ≡ t .found = t .whole ∙ ap (λ (ds : List ℕ). t .found ++ endlessOf (schemaOf s) ds) (sym k) ∙ none-more (t .found) in
       record { count = t .counts ∙ ap length (sym w); table = t .table ∙ ap (noted (length before)) (sym w); most = omega (arith, t .most) }
 
--- ## Slots in an order
+-- ## No findings
 
-pub none-found : (up : Bool) {s starts : List ℕ} {f : Frame} {findings : List ℕ} → Ready s starts f findings → ordered up (schemaOf s) ≡ true → Checked s findings findings 0
-none-found up {s} {findings = findings} r o =
-    let n = none-endless up (schemaOf s) o (schemaOf s .declared) in
-    record { count = ap length (sym n); table = r .blank ∙ ap (noted (length findings)) (sym n); most = omega arith }
+pub none-found : {s starts findings : List ℕ} {f : Frame} → Ready s starts f findings → endlessOf (schemaOf s) (schemaOf s .declared) ≡ [] → Checked s findings findings 0
+none-found {findings = findings} r n = record { count = ap length (sym n); table = r .blank ∙ ap (noted (length findings)) (sym n); most = omega arith }
 
 -- ## The tables
 

@@ -165,18 +165,12 @@ fn check_large(image: &[u8], starts: &[usize], frame: Frame, findings: &mut [u32
     check_with(image, starts, frame, &mut parts, findings)
 }
 
-// Endless types of an accepted image: how many findings there are, and the findings, as far as the table reaches. Where
-// the slots stand in an order nothing has to be walked. A small image has few names, and no large table is cleared for it.
+// Endless types of an accepted image: how many findings there are, and the findings, as far as the table reaches. A small
+// image has few names, and no large table is cleared for it.
 pub fn check_recursion(image: &[u8], starts: &[usize], frame: Frame, findings: &mut [u32]) -> u64
     requires { ⌜ Ready (now image) (now starts) frame (now findings) ⌝ }
     ensures { λ r. ⌜ Checked (now (image .entry)) (now (findings .entry)) (now (findings .exit)) r ⌝ }
 {
-    if order::is_ordered(image, starts, frame, false) {
-        return 0;
-    }
-    if order::is_ordered(image, starts, frame, true) {
-        return 0;
-    }
     if image.len() <= 2048 {
         check_small(image, starts, frame, findings)
     } else {

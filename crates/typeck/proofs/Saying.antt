@@ -1,6 +1,6 @@
 -- From sizes and findings to the answer and the tables that the caller holds. Assumes nothing.
 use Prim.Native.Nat.{ℕ, _+_, _*_, _^_, _≤_, _<_}
-use mathlib.Core.Path.{_≡_, refl, sym, ap, subst, _∙_}
+use mathlib.Core.Path.{_≡_, refl, sym, ap, ap₂, subst, _∙_}
 use mathlib.Core.List.{List, [], _++_}
 use mathlib.Core.Bool.{Bool, true, false, cond}
 use native.Mathlib.Omega.{arith}
@@ -73,6 +73,14 @@ module _ (s sizes findings : List ℕ) where
         sizeTable = refl;
         findingTable = n .1;
       }
+
+  -- neither check has anything to find
+  pub nothing-found : endlessOf (schemaOf s) (schemaOf s .declared) ≡ [] → conformanceOf (schemaOf s) 0 (schemaOf s .slots) ≡ [] → findings ≡ fitted (length findings) []
+      → Found s sizes sizes findings findings (Verdict.Accepted 0)
+  unfolding findingsOf rowsOf
+  nothing-found e f h =
+      let n : findingsOf (schemaOf s) ≡ [] = ap₂ _++_ e f in
+      all-found 0 findings (ap length (sym n), h ∙ ap (noted (length findings)) (sym n)) (omega arith)
 
   -- the sizes stand, and the findings were looked for
   pub found-said : (z : Sizing) (mid after cleared b : List ℕ) (r : Verdict) → sizing.Answered s sizes mid z → z ≡ Sizing.Accepted

@@ -2,10 +2,17 @@
 use image::Frame;
 use reader::Reading;
 use turns::Sizing;
+ghost use Rattle.reader.specs.Reading.{schemaOf};
 ghost use Rattle.reader.specs.Promise.{Promise};
 ghost use Rattle.table.specs.Fitted.{fitted};
-ghost use Rattle.typeck.specs.Check.{Answered, Found};
+ghost use Rattle.order.specs.Order.{isOrdered};
+ghost use Rattle.findings.specs.Conformance.{hasImpl, conformanceOf};
+ghost use Rattle.recursion.specs.Recursion.{Ready, Checked};
+ghost use Rattle.conformance.specs.Adding.{Adds};
+ghost use Rattle.typeck.specs.Check.{Answered, Found, Searchable};
+ghost use Prim.Native.Nat.{_≤_, _^_};
 ghost use lib.ListN.{length};
+ghost use mathlib.Core.Bool.{true, false};
 ghost use mathlib.Core.List.{[]};
 ghost use mathlib.Core.Path.{_≡_};
 
@@ -15,7 +22,65 @@ pub enum Verdict {
     Refused(u8, u64),
 }
 
-// The findings of an image whose sizes stand. Refusal 12 comes after everything else.
+// Class 1, unless the order of the slots rules it out.
+fn count_endless(
+    image: &[u8],
+    starts: &[usize],
+    frame: Frame,
+    ordered: bool,
+    findings: &mut [u32],
+) -> u64
+    requires { ⌜ Ready (now image) (now starts) frame (now findings) × (ordered ≡ true → isOrdered (schemaOf (now image)) ≡ true) ⌝ }
+    ensures { λ r. ⌜ Checked (now (image .entry)) (now (findings .entry)) (now (findings .exit)) r ⌝ }
+{
+    if ordered {
+        return 0;
+    }
+    recursion::check_recursion(image, starts, frame, findings)
+}
+
+// Classes 2 to 4, unless there is no impl.
+fn count_lacking(
+    image: &[u8],
+    starts: &[usize],
+    frame: Frame,
+    impls: bool,
+    findings: &mut [u32],
+    count: u64,
+) -> u64
+    requires { ⌜ Promise (now image) (now starts) frame × (impls ≡ false → hasImpl (schemaOf (now image) .slots) ≡ false) × (count ≤ 2 ^ 27) ⌝ }
+    ensures { λ r. ⌜ Adds (2 ^ 25) (now (findings .entry)) (now (findings .exit)) count r (conformanceOf (schemaOf (now (image .entry))) 0 (schemaOf (now (image .entry)) .slots)) ⌝ }
+{
+    if impls {
+        return conformance::check_impl_conformance(image, starts, frame, findings, count);
+    }
+    count
+}
+
+// Looks for findings one by one. Refusal 12 comes after everything else.
+fn search(
+    image: &[u8],
+    starts: &[usize],
+    frame: Frame,
+    ordered: bool,
+    impls: bool,
+    sizes: &mut [u64],
+    findings: &mut [u32],
+) -> Verdict
+    requires { ⌜ Searchable (now image) (now starts) frame ordered impls (now findings) ⌝ }
+    ensures { λ r. ⌜ Found (now (image .entry)) (now (sizes .entry)) (now (sizes .exit)) (now (findings .entry)) (now (findings .exit)) r ⌝ }
+{
+    let endless = count_endless(image, starts, frame, ordered, findings);
+    let count = count_lacking(image, starts, frame, impls, findings, endless);
+    if (findings.len() as u64) < 6 * count {
+        table::clear(sizes);
+        table::clear_findings(findings);
+        return Verdict::Refused(12, 0);
+    }
+    Verdict::Accepted(count)
+}
+
+// The findings of an image whose sizes stand. Most images can have none, and need no tables to look for them.
 fn find(
     image: &[u8],
     starts: &[usize],
@@ -26,14 +91,14 @@ fn find(
     requires { ⌜ Promise (now image) (now starts) frame × (now findings ≡ fitted (length (now findings)) []) ⌝ }
     ensures { λ r. ⌜ Found (now (image .entry)) (now (sizes .entry)) (now (sizes .exit)) (now (findings .entry)) (now (findings .exit)) r ⌝ }
 {
-    let endless = recursion::check_recursion(image, starts, frame, findings);
-    let count = conformance::check_impl_conformance(image, starts, frame, findings, endless);
-    if (findings.len() as u64) < 6 * count {
-        table::clear(sizes);
-        table::clear_findings(findings);
-        return Verdict::Refused(12, 0);
+    let impls = conformance::has_impls(image, starts, frame);
+    if order::is_ordered(image, starts, frame) {
+        if impls {
+            return search(image, starts, frame, true, true, sizes, findings);
+        }
+        return Verdict::Accepted(0);
     }
-    Verdict::Accepted(count)
+    search(image, starts, frame, false, impls, sizes, findings)
 }
 
 // Checks an image. The size table gets three numbers a slot, the findings table six a finding, and zeros after them; on a

@@ -1,17 +1,17 @@
 -- The loop's invariant: no slot passed is of the kind that leads on. Assumes nothing.
 use borrow.Author.Needs.{needs}
 use native.Mathlib.Omega.{arith}
-use Prim.Native.Nat.{ℕ, _-_, _≤_, _<_}
-use lib.ListN.{getD}
-use borrow.Author.Count.{below-more}
-use mathlib.Core.Bool.{false≢true}
-use Rattle.loops.specs.Marks.{Leading}
-use Rattle.loops.specs.declared.Body.{Body}
+use Prim.Native.Nat.{ℕ, _-_, _≤_}
+use mathlib.Core.Path.{_≡_}
+use mathlib.Core.Bool.{true}
+use Rattle.loops.specs.Leads.{slotsOf, Located}
+use Rattle.loops.specs.Marks.{noneLeads}
+use Rattle.loops.proofs.Leading.{none-first, none-all, passed, stopped}
 use Rattle.loops.proofs.none_leads.Statement.{statement}
 use Rattle.loops.proofs.none_leads.Tie as tie
 
 abbrev Inv-loop : tie.InvT-loop
-Inv-loop image starts count sort i₀ i = (i ≤ count) × ((k : ℕ) → k < i → Leading sort image (getD starts k 0) Body.Nothing)
+Inv-loop image starts count sort i₀ i = (i ≤ count) × ((names : ℕ) → Located names count image starts → noneLeads sort (slotsOf names count image starts) i ≡ true)
 
 abbrev μ-loop : tie.MeasureT-loop
 μ-loop image starts count sort i₀ i = count - i
@@ -22,14 +22,14 @@ none-leads-spec =
     (tie.spec
     Inv-loop
     μ-loop
-    (λ c. (omega arith, λ k l. absurd (omega arith)))
-    (λ c. omega arith)
-    (λ c. search needs)
+    (λ c. (omega arith, λ names p. none-first _ _))
+    (λ c. omega (arith, c .before .before .before .before .pre .1 .few))
+    (λ c. omega (arith, c .before .before .before .before .before .pre .1 .room))
     (λ c κs. search needs)
     (λ c. search needs)
-    (λ c e. absurd (false≢true e))
+    (λ c names p. stopped _ _ _ _ _ p _ (c .before .before .before .before .loop-test .taken) _ (rw (c .enum-told .given .1) at (c .before .before .body-of .ensures)))
     (λ c. search needs)
     (λ c. omega arith)
     (λ c. omega arith)
-    (λ c. (omega arith, below-more _ _ (c .before .before .before .before .before .loop .inv .1) (rw (c .enum-told2 .given .1) at (c .before .before .body-of .ensures))))
-    (λ c e k l. c .before .loop .inv .1 k (omega arith)))
+    (λ c. (omega arith, λ names p. passed _ _ _ _ _ p _ (c .before .before .before .before .loop-test .taken) (c .before .before .before .before .before .loop .inv .1 names p) (rw (c .enum-told2 .given .1) at (c .before .before .body-of .ensures))))
+    (λ c names p. none-all _ _ _ _ (c .before .loop .inv .0) (c .loop-test .left) (c .before .loop .inv .1 names p)))

@@ -1,26 +1,14 @@
-use native.Mathlib.Omega.{arith}
-use Prim.Native.Nat.{_-_}
-use Rattle.reader.specs.Reading.{schemaOf}
-use Rattle.order.proofs.Leading.{Sofar, sofar-start, sofar-on, sofar-stop, sofar-end}
+use mathlib.Core.Path.{sym, _∙_}
+use Rattle.order.proofs.Leading.{ordered-down, ordered-up}
+use borrow.Author.Needs.{needs}
 use Rattle.order.proofs.is_ordered.Statement.{statement}
 use Rattle.order.proofs.is_ordered.Tie as tie
-
-abbrev Inv-loop : tie.InvT-loop
-Inv-loop image starts frame up slots i₀ i = Sofar up (schemaOf image) i
-
-abbrev μ-loop : tie.MeasureT-loop
-μ-loop image starts frame up slots i₀ i = slots - i
 
 pub is-ordered-spec : {M : Type 1} → statement M
 is-ordered-spec =
     tie.close
     (tie.spec
-    Inv-loop
-    μ-loop
-    (λ c. sofar-start _ _)
-    (λ c κs. (c .before .before .before .before .pre, c .loop-test .taken))
-    (λ c. omega arith)
-    (λ c. omega arith)
-    (λ c. sofar-on _ _ _ (c .before .before .before .loop .inv) (omega (arith, c .before .before .before .before .before .before .pre .count, c .before .before .loop-test .taken)) _ (c .before .slot-leads-on .ensures) (c .if1 .taken))
-    (λ c. sofar-stop _ _ _ (c .before .before .before .loop .inv) (omega (arith, c .before .before .before .before .before .before .pre .count, c .before .before .loop-test .taken)) _ (c .before .slot-leads-on .ensures) (c .if1 .left))
-    (λ c. sofar-end _ _ _ (c .before .loop .inv) (omega (arith, c .before .before .before .before .pre .count, c .loop-test .left))))
+    (λ c κs. search needs)
+    (λ c. ordered-down _ (sym (c .if1 .taken) ∙ c .before .goes-one-way .ensures))
+    (λ c κs. search needs)
+    (λ c. ordered-up _ (sym (c .before .if1 .left) ∙ c .before .before .goes-one-way .ensures) _ (c .goes-one-way2 .ensures)))

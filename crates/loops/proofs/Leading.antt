@@ -1,0 +1,72 @@
+-- Where no slot is of the kind that leads on. Assumes nothing.
+use Prim.Native.Nat.{ℕ, zero, suc, _+_, _≤_, _<_}
+use mathlib.Core.Path.{_≡_, refl, sym, ap, _∙_}
+use mathlib.Core.List.{List}
+use mathlib.Core.Bool.{true, false, and-false}
+use mathlib.Core.Logic.{by-cases}
+use native.Mathlib.Numerals.{add-one}
+use native.Mathlib.Omega.{arith}
+use native.Mathlib.Decide.{decLt, ℕ-discrete}
+use borrow.Author.Tests.{eq-eqb, ne-eqb}
+use lib.ListN.{getD}
+use Rattle.number.specs.Grammar.{done, below}
+use Rattle.number.proofs.Reading.{given}
+use Rattle.tree.specs.declared.Sort.{Sort}
+use Rattle.slot.specs.Slot.{Slot, empty, slotKind}
+use Rattle.slot.proofs.Whole.{slot-parts}
+use Rattle.graph.specs.Ways.{Path, step, onto, has}
+use Rattle.graph.specs.Loops.{not-both}
+use Rattle.graph.specs.declared.Lowest.{Lowest}
+use Rattle.loops.specs.Leads.{slotLeads, leads, loopOf, slotsOf, Located}
+use Rattle.loops.specs.Marks.{leadKind, noneLeads, Leading}
+use Rattle.loops.specs.Refusals.{is-not-looped}
+use Rattle.loops.specs.declared.Body.{Body}
+use Rattle.loops.proofs.Filling.{done-as, other-kind, slot-is}
+
+module _ (sort : Sort) (slots : ℕ → Slot) where
+  pub none-first : noneLeads sort slots 0 ≡ true
+  unfolding noneLeads
+  none-first = refl
+
+  none-next : (i : ℕ) → noneLeads sort slots i ≡ true → (slotKind (slots i) ≡ leadKind sort → ⊥) → noneLeads sort slots (i + 1) ≡ true
+  unfolding noneLeads
+  none-next i e h = rw (add-one, e, ne-eqb (slotKind (slots i)) (leadKind sort) h)
+
+  pub none-all : (i n : ℕ) → i ≤ n → n ≤ i → noneLeads sort slots i ≡ true → true ≡ noneLeads sort slots n
+  none-all i n h k e = let z : n ≡ i = omega arith in rw z (sym e)
+
+  one-leads : (i n : ℕ) → i < n → slotKind (slots i) ≡ leadKind sort → noneLeads sort slots n ≡ false
+  unfolding noneLeads
+  one-leads i zero l e = absurd (omega arith)
+  one-leads i (suc n) l e = by-cases (ℕ-discrete i n)
+      (λ q. rw (← q, eq-eqb (slotKind (slots i)) (leadKind sort) e) (and-false (noneLeads sort slots i)))
+      (λ q. rw (one-leads i n (omega arith) e))
+
+  module _ (finds : List ℕ) (count : ℕ) (past : (i : ℕ) → count ≤ i → slots i ≡ empty) (h : noneLeads sort slots count ≡ true) where
+    leads-nowhere : (i j : ℕ) → leads sort finds slots i j ≡ false
+    unfolding leads slotLeads has
+    leads-nowhere i j = by-cases (decLt i count)
+        (λ l. ap (has j) (sym (other-kind sort finds (slots i) (λ e. not-both _ h (one-leads i count l e)))))
+        (λ l. ap (λ (x : Slot). has j (slotLeads sort finds x)) (past i (omega arith)))
+
+    no-path : {a b : ℕ} → Path (leads sort finds slots) a b → ⊥
+    no-path (step e) = not-both _ e (leads-nowhere _ _)
+    no-path (onto e r) = not-both _ e (leads-nowhere _ _)
+
+    pub nothing-looped : loopOf sort finds slots count ≡ Lowest.Nowhere
+    nothing-looped = is-not-looped sort finds slots count past (λ j r. no-path r)
+
+-- the slots of an image, one by one
+module _ (sort : Sort) (names count : ℕ) (s starts : List ℕ) (p : Located names count s starts) (i : ℕ) (l : i < count) where
+  kind-at : (body : ℕ) × (below 10 s (getD starts i 0) ≡ done (slotKind (slotsOf names count s starts i)) body)
+  kind-at =
+      let q = p .reads i l in
+      let k = slot-parts s names (getD starts i 0) (q .0) (q .1) (q .2) in
+      (k .body, done-as (k .kindRead) (ap slotKind (sym (slot-is names count s starts i l (q .0) (q .1) (q .2)))) refl)
+
+  pub passed : noneLeads sort (slotsOf names count s starts) i ≡ true → Leading sort s (getD starts i 0) Body.Nothing
+      → noneLeads sort (slotsOf names count s starts) (i + 1) ≡ true
+  passed e h = none-next sort (slotsOf names count s starts) i e (λ q. h (kind-at .0) (done-as (kind-at .1) q refl))
+
+  pub stopped : (n : ℕ) → Leading sort s (getD starts i 0) (Body.At n) → false ≡ noneLeads sort (slotsOf names count s starts) count
+  stopped n e = sym (one-leads sort (slotsOf names count s starts) i count l (given (sym (kind-at .1) ∙ e) .0))
