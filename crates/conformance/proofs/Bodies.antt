@@ -5,52 +5,31 @@ use mathlib.Core.List.{List}
 use mathlib.Core.Option.{Option, some}
 use native.Mathlib.Omega.{arith}
 use lib.ListN.{length}
-use Rattle.number.specs.Grammar.{Role, kind, name, slot, value, count, Grammar, give, _>>=_, number, many, counted, done, refused, below, read}
+use Rattle.number.specs.Grammar.{Role, kind, name, slot, count, Grammar, give, _>>=_, number, many, counted, done, refused, read}
 use Rattle.number.specs.Answers.{next}
 use Rattle.number.specs.declared.Next.{Next}
-use Rattle.number.proofs.InRange.{below-is, in-range}
+use Rattle.number.proofs.InRange.{below-is}
 use Rattle.number.proofs.Reading.{read-done, read-number, given, not-done, many-length}
 use Rattle.tree.specs.TreeAt.{noKind}
 use Rattle.slot.specs.Field.{typeAt, Span, spanAt}
 use Rattle.slot.specs.Slot.{traitFieldAt, Trait, traitAt, Impl, implAt, traitSpanAt}
+use Rattle.view.specs.Take.{Takes}
+use Rattle.view.proofs.Taking.{take-on, span-taken}
 use Rattle.findings.specs.Conformance.{spanOr}
-use Rattle.conformance.specs.Parts.{Takes, spanOf, SpanIs, ImplIs, TraitIs}
+use Rattle.conformance.specs.Parts.{spanOf, SpanIs, ImplIs, TraitIs}
 use Rattle.conformance.specs.declared.TraitSpan.{TraitSpan}
-
-module _ (s : List ℕ) (at : ℕ) where
-  pub taken : (v n : ℕ) → below (2 ^ 32) s at ≡ done v n → Takes s at v n
-  taken v n e limit w m l f =
-      let i = below-is s at limit w m f in
-      given (sym e ∙ in-range s at (2 ^ 32) w m (i .value) (omega (arith, i .under)))
-
-  pub not-taken : (r p : ℕ) → below (2 ^ 32) s at ≡ refused r p → (v n : ℕ) → Takes s at v n
-  not-taken r p e v n limit w m l f =
-      let i = below-is s at limit w m f in
-      absurd (not-done e (in-range s at (2 ^ 32) w m (i .value) (omega (arith, i .under))))
-
-  -- what follows a number that was taken
-  pub take-on : {A : Type 0} (role : Role) (limit : ℕ) (k : ℕ → Grammar A) (a : A) (end v n : ℕ)
-      → Takes s at v n → limit ≤ 2 ^ 32 → read (_>>=_ (number role limit) k) s at ≡ done a end → read (k v) s n ≡ done a end
-  take-on role limit k a end v n t l e =
-      let p = read-done (number role limit) k s at a end e in
-      let q = t limit (p .first) (p .middle) l (sym (read-number role limit s at) ∙ p .here) in
-      ap₂ (λ (x m : ℕ). read (k x) s m) (q .0) (q .1) ∙ p .rest
 
 no-kind : {A : Type 0} (s : List ℕ) (n : ℕ) → read (noKind {A = A}) s n ≡ refused 4 n
 unfolding read _>>=_
 no-kind s n = refl
 
 module _ (s : List ℕ) (at : ℕ) where
-  span-is : (p : Span) (end o a l b : ℕ) → Takes s at o a → Takes s a l b → read spanAt s at ≡ done p end → (spanOf o l ≡ p) × (b ≡ end)
-  unfolding spanAt read
-  span-is p end o a l b t u e = given (take-on s a value (2 ^ 32) _ p end l b u (omega arith) (take-on s at value (2 ^ 32) _ p end o a t (omega arith) e))
-
   span-made : (p : Option Span) (end o a l b : ℕ) → Takes s at o a → Takes s a l b
       → read (_>>=_ spanAt (λ q. give (some q))) s at ≡ done p end → (some (spanOf o l) ≡ p) × (b ≡ end)
   unfolding read
   span-made p end o a l b t u e =
       let x = read-done spanAt _ s at p end e in
-      let q = span-is (x .first) (x .middle) o a l b t u (x .here) in
+      let q = span-taken s at (x .first) (x .middle) o a l b t u (x .here) in
       let g = given (x .rest) in
       (ap some (q .0) ∙ g .0, q .1 ∙ g .1)
 
@@ -92,7 +71,7 @@ module _ (s : List ℕ) (names body : ℕ) where
   unfolding implAt read counted
   impl-is o a l b i d t u w p k c e h y q r j x end f =
       let A = read-done spanAt _ s body x end f in
-      let sp = span-is s body (A .first) (A .middle) o a l b t u (A .here) in
+      let sp = span-taken s body (A .first) (A .middle) o a l b t u (A .here) in
       let B = take-on s (A .middle) slot (2 ^ 32) _ x end i d (rw (← sp .1) w) (omega arith) (A .rest) in
       let C = read-done traitSpanAt _ s d x end B in
       let ts = k (C .first) (C .middle) (C .here) in

@@ -1,5 +1,4 @@
 pub mod Bodies
-pub mod Adding
 pub mod Required
 pub mod Targets
 pub mod Slots

@@ -17,19 +17,21 @@ use Rattle.image.specs.Schema.{Schema}
 use Rattle.image.specs.declared.Frame.{Frame}
 use Rattle.reader.specs.Reading.{schemaOf}
 use Rattle.reader.specs.Promise.{Promise}
+use Rattle.view.specs.Take.{Takes}
+use Rattle.view.proofs.Taking.{take-on}
 use Rattle.findings.specs.Finding.{finding}
+use Rattle.findings.specs.Adding.{Adds}
 use Rattle.findings.specs.Meaning.{meaningOf}
 use Rattle.findings.specs.Conformance.{hasField, lacking}
 use Rattle.findings.specs.declared.Finding.{Finding}
+use Rattle.findings.proofs.Adding.{adds-none, adds-then, adds-same}
 use Rattle.meanings.specs.Places.{AtNames, Known, Sound, Bound, RightLook}
 use Rattle.meanings.specs.Scopes.{FindsHold}
 use Rattle.search.specs.Search.{SearchAsked, HasField}
-use Rattle.conformance.specs.Parts.{Takes, ImplIs}
-use Rattle.conformance.specs.Adding.{Adds, ownFinding, Targeted}
+use Rattle.conformance.specs.Parts.{ImplIs}
+use Rattle.conformance.specs.Adding.{ownFinding, Targeted}
 use Rattle.conformance.specs.declared.ImplDef.{ImplDef}
 use Rattle.conformance.specs.declared.TraitDef.{TraitDef}
-use Rattle.conformance.proofs.Bodies.{take-on}
-use Rattle.conformance.proofs.Adding.{adds-none, adds-then, adds-same}
 
 -- what names find, in a table of zeros that it was written into
 pub finds-hold : (s starts : List ℕ) (f : Frame) → Promise s starts f → (table : List ℕ)

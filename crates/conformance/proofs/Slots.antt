@@ -15,14 +15,15 @@ use Rattle.reader.specs.Reading.{schemaOf}
 use Rattle.view.specs.Part.{partAt}
 use Rattle.view.specs.declared.Part.{Part}
 use Rattle.view.proofs.Fetching.{Behind, part-behind, not-missing, body-at}
+use Rattle.findings.specs.Adding.{Adds}
 use Rattle.findings.specs.Meaning.{slotFound}
 use Rattle.findings.specs.Conformance.{conforming, onTrait, implFindings, conformanceOf}
 use Rattle.findings.specs.declared.Finding.{Finding}
+use Rattle.findings.proofs.Adding.{adds-none, adds-then, adds-same}
 use Rattle.conformance.specs.Parts.{ImplIs, TraitIs}
-use Rattle.conformance.specs.Adding.{Adds, slotFindings, SlotAsked, Paired}
+use Rattle.conformance.specs.Adding.{slotFindings, SlotAsked, Paired}
 use Rattle.conformance.specs.declared.ImplDef.{ImplDef}
 use Rattle.conformance.specs.declared.TraitDef.{TraitDef}
-use Rattle.conformance.proofs.Adding.{adds-none, adds-then, adds-same}
 use Rattle.conformance.proofs.Targets.{no-trait, no-impl, slots-past}
 
 found-is : (S : Schema) (n : ℕ) → (n ≡ 0 → ⊥) → slotFound S n ≡ slotOf S (n - 1)

@@ -18,14 +18,15 @@ use Rattle.view.specs.Part.{partAt}
 use Rattle.view.specs.declared.Part.{Part}
 use Rattle.view.proofs.Fetching.{Behind, part-behind, not-missing, body-at}
 use Rattle.findings.specs.Finding.{finding}
+use Rattle.findings.specs.Adding.{Adds}
 use Rattle.findings.specs.Conformance.{onTarget, onValue, spanOr, lacking, conforming, onTrait, implFindings}
 use Rattle.findings.specs.declared.Finding.{Finding}
 use Rattle.findings.specs.declared.Value.{Value}
+use Rattle.findings.proofs.Adding.{adds-none, adds-same}
 use Rattle.meanings.specs.Scopes.{RightValue}
-use Rattle.conformance.specs.Adding.{Adds, ownFinding, targetFindings, Paired, Targeted}
+use Rattle.conformance.specs.Adding.{ownFinding, targetFindings, Paired, Targeted}
 use Rattle.conformance.specs.declared.ImplDef.{ImplDef}
 use Rattle.conformance.specs.declared.TraitDef.{TraitDef}
-use Rattle.conformance.proofs.Adding.{adds-none, adds-same}
 use Rattle.conformance.proofs.Required.{own-is}
 
 -- by the kind of the slot

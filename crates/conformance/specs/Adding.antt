@@ -1,27 +1,19 @@
 -- What each step of the check may rely on, and which findings it adds to the table.
-use Prim.Native.Nat.{ℕ, _+_, _≤_, _<_, _^_}
+use Prim.Native.Nat.{ℕ, _≤_, _<_, _^_}
 use mathlib.Core.Path.{_≡_}
-use mathlib.Core.List.{List, _++_}
+use mathlib.Core.List.{List}
 use lib.ListN.{length}
 use Rattle.number.specs.Grammar.{done, read}
 use Rattle.slot.specs.Slot.{Message, messageAt, Trait, Impl}
 use Rattle.image.specs.Schema.{Schema, slotOf}
 use Rattle.image.specs.declared.Frame.{Frame}
 use Rattle.reader.specs.Promise.{Promise}
-use Rattle.findings.specs.Finding.{noted}
 use Rattle.findings.specs.Meaning.{valueOf}
 use Rattle.findings.specs.Conformance.{onValue, implFindings}
 use Rattle.findings.specs.declared.Finding.{Finding}
 use Rattle.conformance.specs.Parts.{ImplIs, TraitIs}
 use Rattle.conformance.specs.declared.ImplDef.{ImplDef}
 use Rattle.conformance.specs.declared.TraitDef.{TraitDef}
-
--- the findings `more`, at most so many, behind the `count` that the table had: what is answered, and the table
-pub record Adds (most : ℕ) (before after : List ℕ) (count r : ℕ) (more : List Finding) : Type 0 where
-  pub answer : r ≡ count + length more
-  pub few : r ≤ count + most
-  pub kept : length after ≡ length before
-  pub table : (l : List Finding) → length l ≡ count → before ≡ noted (length before) l → after ≡ noted (length before) (l ++ more)
 
 -- classes 3 and 4 have the impl's span
 abbrev pub ownFinding : (class slot : ℕ) → ImplDef → (a : ℕ) → Finding

@@ -1,20 +1,16 @@
 -- What the code takes out of the image, and where the rest of an impl and of a trait stands.
-use Prim.Native.Nat.{ℕ, _≤_, _^_}
+use Prim.Native.Nat.{ℕ, _≤_}
 use mathlib.Core.Path.{_≡_}
 use mathlib.Core.List.{List}
 use mathlib.Core.Option.{Option}
 use lib.ListN.{length}
-use Rattle.number.specs.Grammar.{name, number, many, counted, done, below, read}
+use Rattle.number.specs.Grammar.{name, number, many, counted, done, read}
 use Rattle.slot.specs.Field.{typeAt, Span}
 use Rattle.slot.specs.Slot.{traitFieldAt, Trait, Impl, traitSpanAt}
 use Rattle.findings.specs.Conformance.{spanOr}
 use Rattle.conformance.specs.declared.TraitSpan.{TraitSpan}
 use Rattle.conformance.specs.declared.ImplDef.{ImplDef}
 use Rattle.conformance.specs.declared.TraitDef.{TraitDef}
-
--- a number and the position after it, where one below some limit up to 2^32 stands
-abbrev pub Takes : List ℕ → (at value next : ℕ) → Type 0
-Takes s at v n = (limit w m : ℕ) → limit ≤ 2 ^ 32 → below limit s at ≡ done w m → (v ≡ w) × (n ≡ m)
 
 abbrev pub spanOf : (offset length : ℕ) → Span
 spanOf o l = record { offset = o; length = l }

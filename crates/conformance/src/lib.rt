@@ -2,7 +2,6 @@
 use findings::Finding;
 use findings::Value;
 use image::Frame;
-use number::Ranged;
 use view::Part;
 ghost use mathlib.Core.Path.{_≡_};
 ghost use mathlib.Core.List.{[], _∷_};
@@ -17,15 +16,10 @@ ghost use Rattle.reader.specs.Reading.{schemaOf};
 ghost use Rattle.reader.specs.Promise.{Promise};
 ghost use Rattle.view.specs.Part.{partAt};
 ghost use Rattle.view.specs.declared.Part.{Part};
+ghost use Rattle.findings.specs.Adding.{Adds};
 ghost use Rattle.findings.specs.Conformance.{lacking, conforming, conformanceOf, hasImpl};
-ghost use Rattle.conformance.specs.Parts.{Takes, SpanIs, ImplIs, TraitIs};
-ghost use Rattle.conformance.specs.Adding.{Adds, ownFinding, targetFindings, slotFindings, SlotAsked, Paired, Targeted};
-
-// A number of an accepted image, and the position after it. Such an image has one below 2^32 wherever one is taken.
-struct Taken {
-    value: u32,
-    next: usize,
-}
+ghost use Rattle.conformance.specs.Parts.{SpanIs, ImplIs, TraitIs};
+ghost use Rattle.conformance.specs.Adding.{ownFinding, targetFindings, slotFindings, SlotAsked, Paired, Targeted};
 
 // The span of an arity finding, and the position after it.
 struct TraitSpan {
@@ -54,23 +48,11 @@ struct TraitDef {
     field_count: u32,
 }
 
-fn take(image: &[u8], at: usize) -> Taken
-    ensures { λ r. ⌜ Takes (now (image .entry)) at (r .value) (r .next) ⌝ }
-{
-    match number::read_below(image, at, 4294967296) {
-        Ranged::Value(v, next) => Taken {
-            value: v as u32,
-            next,
-        },
-        Ranged::Refused(_, q) => Taken { value: 0, next: q },
-    }
-}
-
 // The trait's span if it is given, else the impl's.
 fn read_trait_span(image: &[u8], at: usize, offset: u32, length: u32) -> TraitSpan
     ensures { λ r. ⌜ SpanIs (now (image .entry)) at offset length r ⌝ }
 {
-    let given = take(image, at);
+    let given = view::take(image, at);
     if given.value == 0 {
         return TraitSpan {
             offset,
@@ -78,8 +60,8 @@ fn read_trait_span(image: &[u8], at: usize, offset: u32, length: u32) -> TraitSp
             next: given.next,
         };
     }
-    let first = take(image, given.next);
-    let second = take(image, first.next);
+    let first = view::take(image, given.next);
+    let second = view::take(image, first.next);
     TraitSpan {
         offset: first.value,
         length: second.value,
@@ -91,11 +73,11 @@ fn read_trait_span(image: &[u8], at: usize, offset: u32, length: u32) -> TraitSp
 fn read_impl(image: &[u8], body: usize, names: u64) -> ImplDef
     ensures { λ r. ⌜ ((x : Impl) (end : ℕ) → read (implAt names) (now (image .entry)) body ≡ done x end → ImplIs names (now (image .entry)) r x) ⌝ }
 {
-    let offset = take(image, body);
-    let length = take(image, offset.next);
-    let trait_id = take(image, length.next);
+    let offset = view::take(image, body);
+    let length = view::take(image, offset.next);
+    let trait_id = view::take(image, length.next);
     let span = read_trait_span(image, trait_id.next, offset.value, length.value);
-    let count = take(image, span.next);
+    let count = view::take(image, span.next);
     let target_type = view::place_of(slot::read_types(
         image,
         count.next,
@@ -118,14 +100,14 @@ fn read_impl(image: &[u8], body: usize, names: u64) -> ImplDef
 fn read_trait(image: &[u8], body: usize, names: u64) -> TraitDef
     ensures { λ r. ⌜ ((t : Trait) (end : ℕ) → read (traitAt names) (now (image .entry)) body ≡ done t end → TraitIs names (now (image .entry)) r t) ⌝ }
 {
-    let params = take(image, body);
+    let params = view::take(image, body);
     let after = view::place_of(number::skip_numbers(
         image,
         params.next,
         params.value as u64,
         names,
     ));
-    let fields = take(image, after);
+    let fields = view::take(image, after);
     TraitDef {
         type_params: body,
         type_param_count: params.value,
@@ -179,12 +161,12 @@ fn check_required_fields(
     let mut finds = [0u16; 4096];
     image::read_finds(image, frame.finds, frame.names, &mut finds);
     let mut places = [0u32; 4096];
-    let fields = take(image, view::fields_place(image, body));
+    let fields = view::take(image, view::fields_place(image, body));
     let mut n = count;
     let mut p = trait_def.fields;
     let mut k: u32 = 0;
     while k < trait_def.field_count {
-        let name = take(image, p);
+        let name = view::take(image, p);
         let looked = meanings::look_up(
             image,
             name.next,

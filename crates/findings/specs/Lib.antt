@@ -1,4 +1,5 @@
 pub mod Finding
+pub mod Adding
 pub mod Endless
 pub mod Meaning
 pub mod Compatible

@@ -1,11 +1,11 @@
 -- Findings of a message, of a declaration, and of all declarations. Assumes nothing.
 use Prim.Native.Nat.{ℕ, suc, _+_, _*_, _-_, _^_, _<_, _≤_}
-use mathlib.Core.Path.{_≡_, refl, sym, ap, ap₂, subst, _∙_}
-use mathlib.Core.List.{List, [], _∷_, _++_, append-assoc}
+use mathlib.Core.Path.{_≡_, refl, sym, ap, _∙_}
+use mathlib.Core.List.{List, [], _∷_, _++_, append-nil, append-assoc}
 use mathlib.Core.Bool.{Bool, true, false, true≢false}
 use native.Mathlib.Omega.{arith}
 use lib.ListN.{length, getD, replicate, length-append, length-replicate, replicate-append-replicate, List·getD-eq-default}
-use Rattle.number.specs.Grammar.{slot, value, number, many, done, refused, below, read}
+use Rattle.number.specs.Grammar.{slot, number, many, done, refused, below, read}
 use Rattle.number.proofs.Reading.{read-done, read-number, given, not-done, front}
 use Rattle.slot.specs.Field.{Span, spanAt, storedAt, fieldsAt}
 use Rattle.slot.specs.Slot.{Slot, empty, message, enum, flags, union, newtype, config, alias, trait, impl, Message, messageAt, slotKind, slotBodyAt}
@@ -14,112 +14,83 @@ use Rattle.image.specs.Schema.{Schema, slotOf}
 use Rattle.image.specs.declared.Frame.{Frame}
 use Rattle.reader.specs.Reading.{schemaOf}
 use Rattle.reader.specs.Promise.{Promise}
+use Rattle.view.specs.Take.{Takes}
 use Rattle.view.proofs.Fetching.{Behind}
+use Rattle.view.proofs.Taking.{span-taken}
 use Rattle.findings.specs.Finding.{finding, noted}
+use Rattle.findings.specs.Adding.{Adds}
 use Rattle.findings.specs.Endless.{endlessAt, endlessOf}
 use Rattle.findings.specs.declared.Finding.{Finding}
+use Rattle.findings.proofs.Adding.{adds-none, adds-one, adds-then, adds-same}
 use Rattle.parts.specs.Names.{isMessage}
 use Rattle.parts.specs.Lists.{Listable, Tabled}
 use Rattle.parts.proofs.Tabling.{all-fit}
 use Rattle.walks.specs.Walk.{Held, Counted}
 use Rattle.walks.proofs.Holding.{held}
-use Rattle.recursion.specs.Recursion.{Ready, Checked, Roomy, Tables, Takes, FindingAt, Adds}
+use Rattle.recursion.specs.Recursion.{Ready, Checked, Roomy, Tables, FindingAt}
 
 -- ## The finding of a message
 
-module _ (s : List ℕ) (at : ℕ) where
-  pub taken : (v n : ℕ) → below (2 ^ 32) s at ≡ done v n → Takes s at v n
-  taken v n e w m f = given (sym e ∙ f)
-
-  pub not-taken : (r p v n : ℕ) → below (2 ^ 32) s at ≡ refused r p → Takes s at v n
-  not-taken r p v n e w m f = absurd (not-done e f)
-
 pub finding-is : (s : List ℕ) (body i o n l k : ℕ) → Takes s body o n → Takes s n l k → FindingAt s body i (record { class = 1; slot = i; offset = o; length = l; a = 0; b = 0 })
-unfolding messageAt spanAt read
+unfolding messageAt read
 finding-is s body i o n l k t u names m end e =
     let a = read-done spanAt _ s body m end e in
-    let b = read-done (number value (2 ^ 32)) _ s body (a .first) (a .middle) (a .here) in
-    let c = read-done (number value (2 ^ 32)) _ s (b .middle) (a .first) (a .middle) (b .rest) in
-    let x = t (b .first) (b .middle) (sym (read-number value (2 ^ 32) s body) ∙ b .here) in
-    let y = u (c .first) (c .middle) (ap (below (2 ^ 32) s) (x .1) ∙ sym (read-number value (2 ^ 32) s (b .middle)) ∙ c .here) in
     let d = read-done storedAt _ s (a .middle) m end (a .rest) in
     let f = read-done (fieldsAt names) _ s (d .middle) m end (d .rest) in
     let p : a .first ≡ m .span = ap (λ (z : Message). z .span) (given (f .rest) .0) in
-    let q = given (c .rest) .0 in
-    ap₂ (λ (g h : ℕ). finding 1 i (record { offset = g; length = h }) 0 0) (x .0) (y .0) ∙ ap (λ (z : Span). finding 1 i z 0 0) (q ∙ p)
+    ap (λ (z : Span). finding 1 i z 0 0) (span-taken s body (a .first) (a .middle) o n l k t u (a .here) .0 ∙ p)
 
 -- ## Findings that are alike
-
-none-more : (l : List Finding) → l ++ [] ≡ l
-none-more [] = refl
-none-more (x ∷ l) = ap (λ (k : List Finding). x ∷ k) (none-more l)
 
 -- `left` of `more` findings are still to come, and n are in the table or would be
 pub record Putting (before : List ℕ) (count : ℕ) (x : Finding) (more left n : ℕ) (now : List ℕ) : Type 0 where
   pub put : ℕ
-  pub counts : n ≡ count + put
   pub rest : put + left ≡ more
-  pub table : (l : List Finding) → length l ≡ count → before ≡ noted (length before) l → now ≡ noted (length before) (l ++ replicate put x)
+  pub adds : Adds put before now count n (replicate put x)
 
 module _ (before : List ℕ) (count : ℕ) (x : Finding) (more : ℕ) where
   pub put-start : Putting before count x more more count before
-  put-start = record { put = 0; counts = omega arith; rest = omega arith; table = λ l h e. e ∙ ap (noted (length before)) (sym (none-more l)) }
+  put-start = record { put = 0; rest = omega arith; adds = adds-none 0 before count }
 
   module _ (left n : ℕ) (now : List ℕ) (p : Putting before count x more left n now) where
-    pub put-on : 0 < left → length now ≡ length before → (after : List ℕ)
+    pub put-on : 0 < left → (after : List ℕ) → length after ≡ length now
         → ((l : List Finding) → length l ≡ n → now ≡ noted (length now) l → after ≡ noted (length now) (l ++ (x ∷ [])))
         → Putting before count x more (left - 1) (n + 1) after
-    put-on h long after f =
+    put-on h after long f =
         record {
           put = p .put + 1;
-          counts = omega (arith, p .counts);
           rest = omega (arith, p .rest);
-          table = λ l k e.
-              let w = p .table l k e in
-              let c : length (l ++ replicate (p .put) x) ≡ n = length-append l (replicate (p .put) x) ∙ omega (arith, length-replicate (p .put) x, p .counts) in
-              f (l ++ replicate (p .put) x) c (w ∙ ap (λ (m : ℕ). noted m (l ++ replicate (p .put) x)) (sym long))
-              ∙ ap₂ noted long (append-assoc l (replicate (p .put) x) (x ∷ []) ∙ ap (λ (k : List Finding). l ++ k) (replicate-append-replicate (p .put) 1 x));
+          adds = adds-same (p .put + 1) (omega arith) (sym (replicate-append-replicate (p .put) 1 x)) (adds-then (p .put + 1) (p .adds) (adds-one now after n x long f) (omega arith));
         }
 
-    pub put-end : left ≤ 0 → Adds before now count (replicate more x) n
-    put-end h =
-        let e : p .put ≡ more = omega (arith, p .rest) in
-        record {
-          table = λ l k f. p .table l k f ∙ ap (λ (m : ℕ). noted (length before) (l ++ replicate m x)) e;
-          counts = omega (arith, p .counts, e, length-replicate more x);
-        }
+    pub put-end : left ≤ 0 → Adds more before now count n (replicate more x)
+    put-end h = let e : more ≡ p .put = omega (arith, p .rest) in adds-same more (omega arith) (ap (λ (m : ℕ). replicate m x) e) (p .adds)
 
 -- ## A declaration
 
 module _ (t : List ℕ) (count : ℕ) where
-  adds-none : (more : List Finding) → [] ≡ more → Adds t t count more count × (count ≤ count + 65536)
-  adds-none more e = (
-    record {
-      table = λ l h f. f ∙ ap (noted (length t)) (sym (none-more l) ∙ ap (λ (k : List Finding). l ++ k) e);
-      counts = omega (arith, ap length e);
-    },
-    omega arith,
-  )
+  none-here : (more : List Finding) → more ≡ [] → Adds 65536 t t count count more
+  none-here more e = rw e (adds-none 65536 t count)
 
   module _ (S : Schema) (i : ℕ) where
-    pub slot-past : {n : ℕ} → n ≡ length (S .slots) → n ≤ i → Adds t t count (endlessAt S i (slotOf S i)) count × (count ≤ count + 65536)
+    pub slot-past : {n : ℕ} → n ≡ length (S .slots) → n ≤ i → Adds 65536 t t count count (endlessAt S i (slotOf S i))
     unfolding slotOf
-    slot-past e h = adds-none _ (ap (endlessAt S i) (sym (List·getD-eq-default (S .slots) empty {n = i} (omega arith))))
+    slot-past e h = none-here _ (ap (endlessAt S i) (List·getD-eq-default (S .slots) empty {n = i} (omega arith)))
 
-    slot-other : (x : Slot) → isMessage x ≡ false → Adds t t count (endlessAt S i x) count × (count ≤ count + 65536)
+    slot-other : (x : Slot) → isMessage x ≡ false → Adds 65536 t t count count (endlessAt S i x)
     slot-other (message m) h = absurd (true≢false h)
-    slot-other empty h = adds-none _ refl
-    slot-other (enum e) h = adds-none _ refl
-    slot-other (flags f) h = adds-none _ refl
-    slot-other (union u) h = adds-none _ refl
-    slot-other (newtype n) h = adds-none _ refl
-    slot-other config h = adds-none _ refl
-    slot-other (alias a) h = adds-none _ refl
-    slot-other (trait y) h = adds-none _ refl
-    slot-other (impl y) h = adds-none _ refl
+    slot-other empty h = none-here _ refl
+    slot-other (enum e) h = none-here _ refl
+    slot-other (flags f) h = none-here _ refl
+    slot-other (union u) h = none-here _ refl
+    slot-other (newtype n) h = none-here _ refl
+    slot-other config h = none-here _ refl
+    slot-other (alias a) h = none-here _ refl
+    slot-other (trait y) h = none-here _ refl
+    slot-other (impl y) h = none-here _ refl
 
     pub slot-not : {messages : List Bool} {first parts : List ℕ} → Held S messages first parts → getD messages i false ≡ false
-        → Adds t t count (endlessAt S i (slotOf S i)) count × (count ≤ count + 65536)
+        → Adds 65536 t t count count (endlessAt S i (slotOf S i))
     slot-not h e = slot-other (slotOf S i) (sym (h .message i) ∙ e)
 
 message-in : (x : Slot) → isMessage x ≡ true → (m : Message) × (x ≡ message m)
@@ -156,15 +127,14 @@ module _ (s : List ℕ) (messages : List Bool) (first parts : List ℕ) (h : Hel
     all-of : endlessAt S i (slotOf S i) ≡ replicate more (finding 1 i (own .0 .span) 0 0)
     all-of = ap (endlessAt S i) (own .1) ∙ ap (λ (n : ℕ). replicate n (finding 1 i (own .0 .span) 0 0)) (sym (c .count S h (own .0) (own .1)))
 
-    pub slot-free : more ≡ 0 → Adds t t count (endlessAt S i (slotOf S i)) count × (count ≤ count + 65536)
-    slot-free z = adds-none t count _ (sym (all-of ∙ ap (λ (n : ℕ). replicate n (finding 1 i (own .0 .span) 0 0)) z))
+    pub slot-free : more ≡ 0 → Adds 65536 t t count count (endlessAt S i (slotOf S i))
+    slot-free z = none-here t count _ (all-of ∙ ap (λ (n : ℕ). replicate n (finding 1 i (own .0 .span) 0 0)) z)
 
-    pub slot-found : (names kind body : ℕ) → Behind names s (slotOf S i) kind body → (x : Finding) → FindingAt s body i x → (t′ : List ℕ) (r : ℕ) → Adds t t′ count (replicate more x) r
-        → Adds t t′ count (endlessAt S i (slotOf S i)) r × (r ≤ count + 65536)
+    pub slot-found : (names kind body : ℕ) → Behind names s (slotOf S i) kind body → (x : Finding) → FindingAt s body i x → (t′ : List ℕ) (r : ℕ) → Adds more t t′ count r (replicate more x)
+        → Adds 65536 t t′ count r (endlessAt S i (slotOf S i))
     slot-found names kind body b x f t′ r a =
         let w = message-reads names s (slotOf S i) kind body b (own .0) (own .1) in
-        let g : replicate more x ≡ endlessAt S i (slotOf S i) = ap (replicate more) (f names (own .0) (w .0) (w .1)) ∙ sym all-of in
-        (subst (λ (l : List Finding). Adds t t′ count l r) g a, omega (arith, a .counts, length-replicate more x, c .most))
+        adds-same 65536 (omega (arith, c .most)) (all-of ∙ ap (replicate more) (sym (f names (own .0) (w .0) (w .1)))) a
 
 -- ## All declarations
 
@@ -208,7 +178,7 @@ module _ (s before : List ℕ) (left p count : ℕ) (now : List ℕ) (t : Turn s
     never-refused r q e = not-done e (declared-front .3)
 
     pub next-turn : (i n : ℕ) → below (2 ^ 32) s p ≡ done i n → length now ≡ length before → (after : List ℕ) (r : ℕ)
-        → Adds now after count (endlessAt (schemaOf s) i (slotOf (schemaOf s) i)) r × (r ≤ count + 65536) → Turn s before (left - 1) n r after
+        → Adds 65536 now after count r (endlessAt (schemaOf s) i (slotOf (schemaOf s) i)) → Turn s before (left - 1) n r after
     unfolding endlessOf
     next-turn i n e long after r a =
         let w = declared-front in
@@ -221,9 +191,9 @@ module _ (s before : List ℕ) (left p count : ℕ) (now : List ℕ) (t : Turn s
           reads = ap (read (many (left - 1) (number slot (2 ^ 32))) s) (g .1) ∙ w .4;
           found = t .found ++ more;
           whole = t .whole ∙ ap (λ (ds : List ℕ). t .found ++ endlessOf (schemaOf s) ds) own ∙ sym (append-assoc (t .found) more (endlessOf (schemaOf s) (w .1)));
-          table = a .0 .table (t .found) (sym (t .counts)) (t .table ∙ ap (λ (m : ℕ). noted m (t .found)) (sym long)) ∙ ap (λ (m : ℕ). noted m (t .found ++ more)) long;
-          counts = a .0 .counts ∙ omega (arith, t .counts, length-append (t .found) more);
-          most = omega (arith, t .most, a .1);
+          table = a .table (t .found) (sym (t .counts)) (t .table ∙ ap (λ (m : ℕ). noted m (t .found)) (sym long)) ∙ ap (λ (m : ℕ). noted m (t .found ++ more)) long;
+          counts = a .answer ∙ omega (arith, t .counts, length-append (t .found) more);
+          most = omega (arith, t .most, a .few);
         }
 
   pub last-turn : left ≤ 0 → Checked s before now count
@@ -231,7 +201,7 @@ module _ (s before : List ℕ) (left p count : ℕ) (now : List ℕ) (t : Turn s
   last-turn h =
       let z : left ≡ 0 = omega arith in
       let k : [] ≡ t .others = given (rw z at (t .reads)) .0 in
-      let w : endlessOf (schemaOf s) (schemaOf s .declared) ≡ t .found = t .whole ∙ ap (λ (ds : List ℕ). t .found ++ endlessOf (schemaOf s) ds) (sym k) ∙ none-more (t .found) in
+      let w : endlessOf (schemaOf s) (schemaOf s .declared) ≡ t .found = t .whole ∙ ap (λ (ds : List ℕ). t .found ++ endlessOf (schemaOf s) ds) (sym k) ∙ append-nil (t .found) in
       record { count = t .counts ∙ ap length (sym w); table = t .table ∙ ap (noted (length before)) (sym w); most = omega (arith, t .most) }
 
 -- ## No findings

@@ -1,10 +1,10 @@
 -- Class 1, from an accepted image to findings in a table.
-use Prim.Native.Nat.{ℕ, _+_, _*_, _^_, _≤_}
+use Prim.Native.Nat.{ℕ, _*_, _^_, _≤_}
 use mathlib.Core.Path.{_≡_}
-use mathlib.Core.List.{List, [], _++_}
+use mathlib.Core.List.{List, []}
 use mathlib.Core.Bool.{Bool}
 use lib.ListN.{length}
-use Rattle.number.specs.Grammar.{done, below, read}
+use Rattle.number.specs.Grammar.{done, read}
 use Rattle.slot.specs.Slot.{Message, messageAt}
 use Rattle.image.specs.declared.Frame.{Frame}
 use Rattle.reader.specs.Reading.{schemaOf}
@@ -36,15 +36,6 @@ pub record Tables (s starts : List ℕ) (f : Frame) (messages : List Bool) (firs
   pub promise : Promise s starts f
   pub held : Held (schemaOf s) messages first parts
 
--- a number below 2^32 and the position after it, where one stands
-abbrev pub Takes : List ℕ → (at value next : ℕ) → Type 0
-Takes s at v n = (w m : ℕ) → below (2 ^ 32) s at ≡ done w m → (v ≡ w) × (n ≡ m)
-
 -- the finding of the message that stands at a position
 abbrev pub FindingAt : List ℕ → (body slot : ℕ) → Finding → Type 0
 FindingAt s body slot x = (names : ℕ) (m : Message) (end : ℕ) → read (messageAt names) s body ≡ done m end → x ≡ finding 1 slot (m .span) 0 0
-
--- more findings behind the `count` that the table held
-pub record Adds (before after : List ℕ) (count : ℕ) (more : List Finding) (r : ℕ) : Type 0 where
-  pub table : (l : List Finding) → length l ≡ count → before ≡ noted (length before) l → after ≡ noted (length before) (l ++ more)
-  pub counts : r ≡ count + length more

@@ -10,33 +10,16 @@ ghost use lib.ListN.{length, replicate};
 ghost use Rattle.image.specs.Schema.{slotOf};
 ghost use Rattle.reader.specs.Reading.{schemaOf};
 ghost use Rattle.findings.specs.Finding.{noted};
+ghost use Rattle.findings.specs.Adding.{Adds};
 ghost use Rattle.findings.specs.Endless.{endlessAt};
-ghost use Rattle.recursion.specs.Recursion.{Ready, Checked, Roomy, Tables, Takes, FindingAt, Adds};
-
-// A number of an accepted image, and the position after it.
-struct Taken {
-    value: u32,
-    next: usize,
-}
-
-fn take(image: &[u8], at: usize) -> Taken
-    ensures { λ r. ⌜ Takes (now (image .entry)) at (r .value) (r .next) ⌝ }
-{
-    match number::read_below(image, at, 4294967296) {
-        Ranged::Value(value, next) => Taken {
-            value: value as u32,
-            next,
-        },
-        Ranged::Refused(_, next) => Taken { value: 0, next },
-    }
-}
+ghost use Rattle.recursion.specs.Recursion.{Ready, Checked, Roomy, Tables, FindingAt};
 
 // The finding of a message, whose span stands in front.
 fn finding_at(image: &[u8], body: usize, slot: u32) -> Finding
     ensures { λ r. ⌜ FindingAt (now (image .entry)) body slot r ⌝ }
 {
-    let offset = take(image, body);
-    let length = take(image, offset.next);
+    let offset = view::take(image, body);
+    let length = view::take(image, offset.next);
     Finding {
         class: 1,
         slot,
@@ -50,7 +33,7 @@ fn finding_at(image: &[u8], body: usize, slot: u32) -> Finding
 // So many findings that are alike.
 fn put_findings(findings: &mut [u32], count: u64, more: u64, finding: Finding) -> u64
     requires { ⌜ count + more ≤ 2 ^ 32 ⌝ }
-    ensures { λ r. ⌜ Adds (now (findings .entry)) (now (findings .exit)) count (replicate more finding) r ⌝ }
+    ensures { λ r. ⌜ Adds more (now (findings .entry)) (now (findings .exit)) count r (replicate more finding) ⌝ }
 {
     let mut left = more;
     let mut n = count;
@@ -75,7 +58,7 @@ fn check_slot(
     findings: &mut [u32],
 ) -> u64
     requires { ⌜ Tables (now image) (now starts) frame (now messages) (now first) (now parts) × (count ≤ 2 ^ 27) ⌝ }
-    ensures { λ r. ⌜ Adds (now (findings .entry)) (now (findings .exit)) count (endlessAt (schemaOf (now (image .entry))) slot (slotOf (schemaOf (now (image .entry))) slot)) r × (r ≤ count + 65536) ⌝ }
+    ensures { λ r. ⌜ Adds 65536 (now (findings .entry)) (now (findings .exit)) count r (endlessAt (schemaOf (now (image .entry))) slot (slotOf (schemaOf (now (image .entry))) slot)) ⌝ }
 {
     if frame.slots <= slot {
         return count;

@@ -19,12 +19,12 @@ use Rattle.turns.specs.Sizing.{verdict, rowsIn, sizingIn, sizeRowsIn, sizingOf,
 use Rattle.turns.specs.Sizing as sizing
 use Rattle.turns.specs.declared.Sizing.{Sizing}
 use Rattle.findings.specs.Finding.{noted, rowsOf}
+use Rattle.findings.specs.Adding.{Adds}
 use Rattle.findings.specs.Endless.{endlessOf}
 use Rattle.findings.specs.Conformance.{conformanceOf}
 use Rattle.findings.specs.Findings.{findingsOf}
 use Rattle.findings.specs.declared.Finding.{Finding}
 use Rattle.recursion.specs.Recursion as endless
-use Rattle.conformance.specs.Adding.{Adds}
 use Rattle.typeck.specs.Check.{judged, verdictIn, verdictOf, onAccepted, sizeTable, findingTable, Answered, Found}
 use Rattle.typeck.specs.declared.Verdict.{Verdict}
 

@@ -1,5 +1,6 @@
 pub mod Fetching
 pub mod Places
+pub mod Taking
 pub mod Viewed
 pub mod Thin
 pub mod Over

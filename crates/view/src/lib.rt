@@ -9,6 +9,7 @@ ghost use Rattle.number.specs.Grammar.{counted, done, read};
 ghost use Rattle.slot.specs.Field.{typeAt, fieldsAt};
 ghost use Rattle.slot.specs.Slot.{Message, messageAt, Union, unionAt, Newtype, newtypeAt};
 ghost use Rattle.view.specs.Part.{partAt};
+ghost use Rattle.view.specs.Take.{Takes};
 
 // An image, with the table of where its slots start.
 pub struct View<'a, 'b> {
@@ -20,6 +21,12 @@ pub struct View<'a, 'b> {
 pub enum Part {
     At(u64, usize),
     Missing,
+}
+
+// A number of an accepted image, and the position after it. Such an image has one below 2^32 wherever one is taken.
+pub struct Taken {
+    pub value: u32,
+    pub next: usize,
 }
 
 // The part of slot k, by the table of where the slots start.
@@ -61,6 +68,18 @@ pub fn place_of(cursor: Next) -> usize
     match cursor {
         Next::At(n) => n,
         Next::Refused(_, place) => place,
+    }
+}
+
+pub fn take(image: &[u8], at: usize) -> Taken
+    ensures { λ r. ⌜ Takes (now (image .entry)) at (r .value) (r .next) ⌝ }
+{
+    match number::read_below(image, at, 4294967296) {
+        Ranged::Value(value, next) => Taken {
+            value: value as u32,
+            next,
+        },
+        Ranged::Refused(_, next) => Taken { value: 0, next },
     }
 }
 

@@ -1,4 +1,4 @@
-use Rattle.conformance.proofs.Adding.{found-none, lacks-one}
+use Rattle.findings.proofs.Adding.{found-none, lacks-one}
 use borrow.Author.Needs.{needs}
 use Rattle.conformance.proofs.put_unless.Statement.{statement}
 use Rattle.conformance.proofs.put_unless.Tie as tie

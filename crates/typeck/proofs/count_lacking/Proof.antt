@@ -1,5 +1,5 @@
 use native.Mathlib.Omega.{arith}
-use Rattle.conformance.proofs.Adding.{adds-none, adds-same}
+use Rattle.findings.proofs.Adding.{adds-none, adds-same}
 use Rattle.conformance.proofs.Having.{none-lacking}
 use borrow.Author.Needs.{needs}
 use Rattle.typeck.proofs.count_lacking.Statement.{statement}

@@ -5,15 +5,15 @@ use mathlib.Core.List.{List, [], _∷_, _++_, append-nil, append-assoc}
 use mathlib.Core.Bool.{Bool, true, false, cond}
 use native.Mathlib.Omega.{arith}
 use lib.ListN.{length, length-append}
 use Rattle.findings.specs.Finding.{noted}
+use Rattle.findings.specs.Adding.{Adds}
 use Rattle.findings.specs.declared.Finding.{Finding}
-use Rattle.conformance.specs.Adding.{Adds}
 
 pub adds-none : (most : ℕ) (t : List ℕ) (n : ℕ) → Adds most t t n n []
 adds-none most t n =
     record { answer = omega arith; few = omega arith; kept = refl; table = λ l e h. h ∙ ap (noted (length t)) (sym (append-nil l)) }
 
-adds-one : (t u : List ℕ) (n : ℕ) (f : Finding) → length u ≡ length t
+pub adds-one : (t u : List ℕ) (n : ℕ) (f : Finding) → length u ≡ length t
     → ((l : List Finding) → length l ≡ n → t ≡ noted (length t) l → u ≡ noted (length t) (l ++ (f ∷ []))) → Adds 1 t u n (n + 1) (f ∷ [])
 adds-one t u n f k h = record { answer = omega arith; few = omega arith; kept = k; table = h }
 
