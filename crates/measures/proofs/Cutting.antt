@@ -7,12 +7,12 @@ use native.Mathlib.Nat.{mul-zero, pos-of-ne-zero, min-eq-left, min-eq-right, le-
 use native.Mathlib.Decide.{decLe}
 use native.Mathlib.Omega.{arith}
 use lib.Dec.{ltb}
-use borrow.Author.Tests.{lt-ltb, le-ltb, eq-eqb, ne-eqb}
+use borrow.Author.Tests.{lt-ltb, le-ltb}
 use Rattle.sizes.specs.declared.Size.{Size}
 use Rattle.sizes.specs.declared.Size.the-variants.{Fixed, Bounded, Open}
 use Rattle.sizes.specs.declared.Worked.{Worked}
 use Rattle.sizes.specs.declared.Worked.the-variants.{Sized, Over}
-use Rattle.sizes.specs.Sizes.{limit, mark, limited, variable, both, smallest, largest, unmarked}
+use Rattle.sizes.specs.Sizes.{limit, limited, variable, both}
 use Rattle.measures.specs.Cut.{cutSum}
 
 -- one law for every number of a size
@@ -67,14 +67,6 @@ cut-optional none = refl
 pub one-more : (a : Option ℕ) {w : Worked} {z : Size} (h : Option ℕ) → w ≡ limited z → z ≡ variable 1 h → h ≡ both cutSum (some 1) a
     → w ≡ limited (variable 1 (both _+_ (some 1) a))
 one-more a h p q t = p ∙ ap limited (q ∙ ap (variable 1) t) ∙ cut-optional a
-
--- the union's mark
-module _ (s : Size) {t : Size} (h : Option ℕ) where
-  pub marked-still : smallest s ≡ mark → h ≡ largest s → t ≡ variable 0 h → t ≡ unmarked s
-  marked-still e f g = let p = eq-eqb (smallest s) mark e in g ∙ rw (p, f)
-
-  pub marked-not : {low : ℕ} → low ≡ smallest s → (low ≡ mark → ⊥) → h ≡ largest s → t ≡ variable low h → t ≡ unmarked s
-  marked-not e n f g = let p = ne-eqb (smallest s) mark (λ q. n (e ∙ q)) in g ∙ rw (p, e, f)
 
 -- a product and the limit, over the factor
 module _ (x k : ℕ) where

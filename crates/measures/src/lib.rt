@@ -4,7 +4,7 @@ use sizes::Worked;
 ghost use mathlib.Core.Path.{_≡_};
 ghost use Prim.Native.Nat.{_+_, _*_, _^_, min, max};
 ghost use Rattle.tree.specs.Tree.{Tree, Leaf, Wrap, leafKind, leafNumber, wrapKind};
-ghost use Rattle.sizes.specs.Sizes.{smallest, largest, variable, both, limited, limitedSum, limitedProduct, Resolver, leafSize, countOf, wrapSize, primitiveBits, semanticBits, fixedOrOpen, optionalSize, multiplied, withoutLargest, widened, raised, unmarked, varintEnd, zigZagEnd};
+ghost use Rattle.sizes.specs.Sizes.{smallest, largest, variable, both, limited, limitedSum, limitedProduct, Resolver, leafSize, countOf, wrapSize, primitiveBits, semanticBits, fixedOrOpen, optionalSize, multiplied, withoutLargest, widened, raised, varintEnd, zigZagEnd};
 ghost use Rattle.measures.specs.Cut.{cutSum, highOf};
 ghost use Rattle.measures.specs.Heads.{kindOf, numberOf};
 
@@ -287,21 +287,9 @@ pub fn result_wire_size(ok: Size, err: Size) -> Worked
     raise(1, widen(ok, err))
 }
 
-// Where the smallest is still the mark, it becomes 0.
-fn unmark(extremes: Size) -> Size
-    ensures { λ r. ⌜ r ≡ unmarked extremes ⌝ }
-{
-    let low = wire_size_min_bits(extremes);
-    if low == 18446744073709551615 {
-        vary(0, wire_size_max_bits(extremes))
-    } else {
-        vary(low, wire_size_max_bits(extremes))
-    }
-}
-
 // A union's size, from the extremes over its variants.
 pub fn tag(extremes: Size) -> Worked
-    ensures { λ r. ⌜ r ≡ limitedSum (raised 8 (unmarked extremes)) ⌝ }
+    ensures { λ r. ⌜ r ≡ limitedSum (raised 8 extremes) ⌝ }
 {
-    raise(8, unmark(extremes))
+    raise(8, extremes)
 }

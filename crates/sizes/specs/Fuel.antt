@@ -82,7 +82,8 @@ module _ (r r′ : Resolver) where
 
   union-agree : (vs : List (List Field)) → Agree r r′ (variantsParts vs) → unionSize r vs ≡ unionSize r′ vs
   unfolding unionSize
-  union-agree vs h = rw (variants-agree vs h (Bounded mark 0))
+  union-agree [] h = refl
+  union-agree (v ∷ vs) h = rw (variants-agree (v ∷ vs) h (Bounded mark 0))
 
   pub body-agree : (c : Content) → Agree r r′ (contentParts c) → bodySize r c ≡ bodySize r′ c
   unfolding bodySize contentParts

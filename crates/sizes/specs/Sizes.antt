@@ -4,7 +4,7 @@ use mathlib.Core.Bool.{Bool, true, false, cond, _&&_, _||_}
 use mathlib.Core.List.{List, [], _∷_}
 use mathlib.Core.Option.{Option, none, some}
 use lib.ListN.{length, getD}
-use lib.Dec.{eqb, ltb}
+use lib.Dec.{ltb}
 use Rattle.tree.specs.Tree.{Tree, Leaf, Wrap, leaf, wrap, fixedArray, pair, generic, primitive, subByte, semantic, named, bitsInline, qualified, optional, array, setOf, vec2, vec3, vec4, quat, mat3, mat4, mapOf, resultOf}
 use Rattle.tree.specs.Encoding.{Encoding, default, varint, zigZag, delta}
 use Rattle.slot.specs.Field.{Field}
@@ -215,18 +215,16 @@ fieldsSize r fs = addFields r (Fixed 0) fs
 
 -- ## Unions
 
+-- where the least over variants starts: above every smallest within the limit
 abbrev pub mark : ℕ
 mark = 2 ^ 64 - 1
-
--- a smallest that is still the mark becomes 0
-abbrev pub unmarked : Size → Size
-unmarked s = variable (cond (eqb (smallest s) mark) 0 (smallest s)) (largest s)
 
 -- the extremes so far, and the variants that are still to be looked at
 unfoldable pub addVariants : Resolver → (extremes : Size) → List (List Field) → Worked
 addVariants r extremes [] = Sized extremes
 addVariants r extremes (v ∷ vs) = then (fieldsSize r v) (λ s. addVariants r (widened extremes s) vs)
 
--- 8 plus the extremes over variants
+-- 8 plus the extremes over variants; 8..8 where there is none
 unfoldable pub unionSize : Resolver → List (List Field) → Worked
-unionSize r vs = then (addVariants r (Bounded mark 0) vs) (λ s. limitedSum (raised 8 (unmarked s)))
+unionSize r [] = Sized (Bounded 8 8)
+unionSize r (v ∷ vs) = then (addVariants r (Bounded mark 0) (v ∷ vs)) (λ s. limitedSum (raised 8 s))

@@ -1,5 +1,5 @@
 -- A relation that keeps the laws holds between the lengths of a type and the ends of its size, where it does so for its parts.
-use mathlib.Core.Path.{_≡_, refl, sym, ap, subst, _∙_}
+use mathlib.Core.Path.{_≡_, refl, sym, subst}
 use Prim.Native.Nat.{ℕ, _≤_}
 use native.Mathlib.Omega.{arith}
 use mathlib.Core.List.{List, [], _∷_, List·Memᴰ, List·Memᴰ·head, Memᴰ·append-left, Memᴰ·append-right}
@@ -9,10 +9,10 @@ use Rattle.tree.specs.Tree.{Tree, Leaf, leaf, wrap, fixedArray, pair, generic, 
 use Rattle.tree.specs.Encoding.{Encoding, default, varint, zigZag, delta}
 use Rattle.slot.specs.Field.{Field}
 use Rattle.image.specs.Schema.{Schema}
-use Rattle.sizes.specs.Sizes.{Size, Fixed, Bounded, Open, Worked, Sized, smallest, largest, variable, limited, then, semanticBits, fixedOrOpen, Resolver, leafSize, optionalSize, multiplied, withoutLargest, widened, raised, Count, atMostOne, anyNumber, exactly, countOf, wrapSize, typeSize, varintEnd, zigZagEnd, encodedSize, fieldSize, added, addFields, fieldsSize, mark, unmarked, addVariants, unionSize}
+use Rattle.sizes.specs.Sizes.{Size, Fixed, Bounded, Open, Worked, Sized, smallest, largest, variable, limited, then, semanticBits, fixedOrOpen, Resolver, leafSize, optionalSize, multiplied, withoutLargest, widened, raised, Count, atMostOne, anyNumber, exactly, countOf, wrapSize, typeSize, varintEnd, zigZagEnd, encodedSize, fieldSize, added, addFields, fieldsSize, mark, addVariants, unionSize}
 use Rattle.sizes.specs.Names.{Content, fields, variants, bits, terminal, anything, orElse, contentSize}
 use Rattle.sizes.specs.Lengths.{FixedOrAny, Length, ofQualified, ofGeneric, WrapLength, EncodedLength, FieldsLength, ContentLength, ofAnything, wrapParts, typeParts, encodedParts, fieldsParts, variantsParts, contentParts, SlotLength}
-use Rattle.sizes.specs.Steps.{sized-inj, then-made, step-made, field-added, variant-added, fields-small, variants-small, widened-small, mark-gone, first-variant}
+use Rattle.sizes.specs.Steps.{sized-inj, then-made, step-made, field-added, variant-added, fields-small, first-variant}
 use Rattle.sizes.specs.Laws.{Plus, More, Sums, Either, Relation, Laws}
 use Rattle.sizes.specs.Rules.{primitive-is, sub-byte-is, semantic-is, bits-inline-is, optional-is, elements-is, exactly-is, fixed-array-is, map-is, result-is, wrap-is, plain-is, varint-is, zigzag-is, delta-is, FieldLength, no-field-is, one-field-is, fields-is, message-is, SomeVariant, no-variant-is, variants-is, none-left-is, one-variant-is, bits-is, terminal-is, varint-end, zigzag-end}
 
@@ -174,23 +174,17 @@ module _ (R : Relation) (laws : Laws R) where
     -- the mark is gone after the first variant
     pub sound-union : (vs : List (List Field)) → HoldsFor R S r (variantsParts vs) → (s : Size) → unionSize r vs ≡ Sized s →
         On R (ContentLength S (variants vs)) s
-    unfolding unionSize addVariants variantsParts
-    sound-union [] parts s q =
-        let m = step-made (addVariants r (Bounded mark 0) []) (λ x. raised 8 (unmarked x)) s q in
-        let e : raised 8 (unmarked (Bounded mark 0)) ≡ s
-        = ap (λ (x : Size). raised 8 (unmarked x)) (sized-inj (m .given)) ∙ m .same in
-        made _ (Bounded 8 8) s e (no-variant-is S) (laws .exact 8)
+    unfolding unionSize variantsParts
+    sound-union [] parts s q = sized _ (Bounded 8 8) s q (no-variant-is S) (laws .exact 8)
     sound-union (v ∷ vs) parts s q =
-        let m = step-made (addVariants r (Bounded mark 0) (v ∷ vs)) (λ x. raised 8 (unmarked x)) s q in
+        let m = step-made (addVariants r (Bounded mark 0) (v ∷ vs)) (raised 8) s q in
         let m′ = variant-added r (Bounded mark 0) v vs (m .part) (m .given) in
         let first = widened (Bounded mark 0) (m′ .part) in
         let small = fields-small r v (m′ .part) (m′ .given) in
-        let small′ = variants-small r vs first (m .part) (widened-small (Bounded mark 0) (m′ .part) small) (m′ .made) in
         let a = sound-fields v (λ j p. parts j (Memᴰ·append-left (variantsParts vs) p)) (m′ .part) (m′ .given) in
         let a′ = subst (On R (FieldsLength S v)) (sym (first-variant (m′ .part) small)) (on-loose _ (m′ .part) a) in
         let b = sound-variants vs (λ j p. parts j (Memᴰ·append-right (fieldsParts v) p)) _ first (m .part) a′ (m′ .made) in
-        let b′ = subst (On R _) (sym (mark-gone (m .part) small′)) (on-loose _ (m .part) b) in
-        made _ _ s (m .same) (variants-is S v vs) (on-raised 8 _ (unmarked (m .part)) b′)
+        made _ _ s (m .same) (variants-is S v vs) (on-raised 8 _ (m .part) b)
 
     pub sound-message : (fs : List Field) → HoldsFor R S r (fieldsParts fs) → (s : Size) → fieldsSize r fs ≡ Sized s →
         On R (ContentLength S (fields fs)) s

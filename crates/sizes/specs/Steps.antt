@@ -5,10 +5,10 @@ use native.Mathlib.Omega.{arith}
 use mathlib.Core.Bool.{Bool, true, false, cond, _||_}
 use mathlib.Core.List.{List, [], _∷_}
 use mathlib.Core.Option.{Option, none, some}
-use lib.Dec.{eqb, ltb}
-use borrow.Author.Tests.{eqb-true, ltb-false}
+use lib.Dec.{ltb}
+use borrow.Author.Tests.{ltb-false}
 use Rattle.slot.specs.Field.{Field}
-use Rattle.sizes.specs.Sizes.{Size, Fixed, Bounded, Open, Worked, Sized, Over, smallest, largest, variable, both, limit, passes, limited, then, widened, Resolver, fieldSize, added, addFields, fieldsSize, mark, unmarked, addVariants}
+use Rattle.sizes.specs.Sizes.{Size, Fixed, Bounded, Open, Worked, Sized, Over, smallest, largest, variable, both, limit, passes, limited, then, widened, Resolver, fieldSize, added, addFields, fieldsSize, mark, addVariants}
 
 pub sized-inj : {s s′ : Size} → Sized s ≡ Sized s′ → s ≡ s′
 sized-inj e = cc
@@ -99,33 +99,6 @@ add-small r (f ∷ fs) total s le q =
 
 pub fields-small : (r : Resolver) (fs : List Field) (s : Size) → fieldsSize r fs ≡ Sized s → smallest s ≤ limit
 fields-small r fs s q = add-small r fs (Fixed 0) s (omega arith) q
-
-low-variable : (l : ℕ) (h : Option ℕ) → smallest (variable l h) ≡ l
-low-variable l (some h) = refl
-low-variable l none = refl
-
-pub widened-small : (s s′ : Size) → smallest s′ ≤ limit → smallest (widened s s′) ≤ limit
-widened-small s s′ le = rw (low-variable (min (smallest s) (smallest s′)) (both max (largest s) (largest s′))) (omega arith)
-
-pub variants-small : (r : Resolver) (vs : List (List Field)) (extremes s : Size) → smallest extremes ≤ limit →
-    addVariants r extremes vs ≡ Sized s → smallest s ≤ limit
-unfolding addVariants
-variants-small r [] extremes s le q = rw (sized-inj q) at le
-variants-small r (v ∷ vs) extremes s le q =
-    let a = variant-added r extremes v vs s q in
-    let small = widened-small extremes (a .part) (fields-small r v (a .part) (a .given)) in
-    variants-small r vs (widened extremes (a .part)) s small (a .made)
-
-below-mark : (l : ℕ) → l ≤ limit → cond (eqb l mark) 0 l ≡ l
-below-mark l le = go (eqb l mark) refl
-  where
-    go : (b : Bool) → eqb l mark ≡ b → cond b 0 l ≡ l
-    go true e = let z : l ≡ mark = eqb-true l mark e in absurd (omega arith)
-    go false e = refl
-
--- the mark is gone after one variant
-pub mark-gone : (s : Size) → smallest s ≤ limit → unmarked s ≡ variable (smallest s) (largest s)
-mark-gone s le = rw (below-mark (smallest s) le)
 
 max-largest : (h : Option ℕ) → both max (some 0) h ≡ h
 max-largest (some h) = ap some (omega arith)

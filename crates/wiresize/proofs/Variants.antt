@@ -1,19 +1,21 @@
 -- Variants by the code's turns. Assumes nothing.
 use Prim.Native.Nat.{ℕ, _-_, _≤_, _<_}
-use mathlib.Core.Path.{_≡_, sym, ap, subst, _∙_}
+use mathlib.Core.Path.{_≡_, refl, sym, ap, subst, _∙_}
 use mathlib.Core.List.{List, [], _∷_}
 use mathlib.Core.Bool.{Bool, true, false}
 use native.Mathlib.Omega.{arith}
+use lib.ListN.{length}
 use Rattle.number.specs.Grammar.{many, done, below, read}
-use Rattle.number.proofs.Reading.{Front, counted-on}
+use Rattle.number.proofs.Reading.{Front, counted-on, many-length}
 use Rattle.slot.specs.Field.{Field, fieldAt, fieldsAt}
 use Rattle.reader.specs.Reading.{schemaOf}
 use Rattle.sizes.specs.declared.Size.{Size}
 use Rattle.sizes.specs.declared.Size.the-variants.{Bounded}
 use Rattle.sizes.specs.declared.Worked.{Worked}
 use Rattle.sizes.specs.declared.Worked.the-variants.{Sized, Over}
-use Rattle.sizes.specs.Sizes.{then, limitedSum, Resolver, fieldsSize, mark, addVariants, unionSize, widened, raised, unmarked}
+use Rattle.sizes.specs.Sizes.{then, limitedSum, Resolver, fieldsSize, mark, addVariants, unionSize, widened, raised}
 use Rattle.sizes.specs.Names.{State}
+use Rattle.sizes.specs.Steps.{over-not}
 use Rattle.total.specs.Totals.{sizeOf, totalOf}
 use Rattle.total.specs.declared.Total.{Total}
 use Rattle.wiresize.specs.Rows.{RowsHold}
@@ -38,13 +40,21 @@ unfolding addVariants
 extremes-done R extremes e = rw (← e)
 
 union-over : (R : Resolver) (vs : List (List Field)) → addVariants R (Bounded mark 0) vs ≡ Over → Over ≡ unionSize R vs
-unfolding unionSize then
-union-over R vs e = rw e
+unfolding unionSize addVariants then
+union-over R [] e = over-not (sym e)
+union-over R (v ∷ vs) e = rw e
 
-union-sized : (R : Resolver) (vs : List (List Field)) {x : Size} {r : Worked} → addVariants R (Bounded mark 0) vs ≡ Sized x
-    → r ≡ limitedSum (raised 8 (unmarked x)) → r ≡ unionSize R vs
+union-sized : (R : Resolver) (vs : List (List Field)) → 0 < length vs → {x : Size} {r : Worked} → addVariants R (Bounded mark 0) vs ≡ Sized x
+    → r ≡ limitedSum (raised 8 x) → r ≡ unionSize R vs
 unfolding unionSize then
-union-sized R vs e q = q ∙ rw e
+union-sized R [] h e q = absurd (omega arith)
+union-sized R (v ∷ vs) h e q = q ∙ rw e
+
+-- a union without variants, by itself
+pub union-none : (R : Resolver) (vs : List (List Field)) → length vs ≡ 0 → Sized (Bounded 8 8) ≡ unionSize R vs
+unfolding unionSize
+union-none R [] h = refl
+union-none R (v ∷ vs) h = absurd (omega arith)
 
 module _ (s : List ℕ) (names : ℕ) (rows : List ℕ) (w : List Bool) (count first : ℕ) where
   abbrev pub Whole : List (List Field) → ℕ → Type 0
@@ -98,10 +108,10 @@ module _ (s : List ℕ) (names : ℕ) (rows : List ℕ) (w : List Bool) (count f
             union-over _ vs (sym (l .widens vs e q st H) ∙ ap (addVariants (resolver s st w) extremes) (f .whole)
             ∙ extremes-over _ extremes (f .first) (f .others) (o _ _ variant-fields st H))
 
-    pub variants-end : left ≤ 0 → {r : Worked} → r ≡ limitedSum (raised 8 (unmarked extremes)) → (vs : List (List Field)) (e : ℕ) → Whole vs e → (st : State)
+    pub variants-end : 0 < count → left ≤ 0 → {r : Worked} → r ≡ limitedSum (raised 8 extremes) → (vs : List (List Field)) (e : ℕ) → Whole vs e → (st : State)
         → RowsHold (schemaOf s) st rows → r ≡ unionSize (resolver s st w) vs
-    variants-end h q vs e p st H =
-        union-sized _ vs
+    variants-end c h q vs e p st H =
+        union-sized _ vs (let z = many-length (fieldsAt names) s count first vs e p in omega arith)
         (sym (l .widens vs e p st H) ∙ extremes-done _ extremes (none-left (fieldsAt names) s left here h (l .variants) (l .end) (l .reads) .0)) q
 
 -- the variants behind their count

@@ -486,6 +486,10 @@ fn compute_union_wire_size(
     let Ranged::Value(count, first) = number::read_below(image, at, 65537) else {
         return Worked::Over;
     };
+    if count == 0 {
+        return Worked::Sized(Size::Bounded(8, 8));
+    }
+    // The smallest starts above any that a variant can have.
     let mut extremes = Size::Bounded(18446744073709551615, 0);
     let mut here = first;
     let mut over = false;

@@ -10,7 +10,7 @@ add-spec =
     tie.close
     (tie.spec
     (λ c κs. search needs)
-    (λ c. c .before .before .pre .small)
+    (λ c. omega (arith, c .before .before .pre .small))
     (λ c. passed-low _ (c .before .before .before .pre) (c .before .before .before .args .size) (c .before .before .wire-size-min-bits .ensures) (omega (arith, c .before .before .before .pre .small)))
     (λ c. omega (arith, c .before .before .before .before .pre .small))
     (λ c κs. search needs)

@@ -1,5 +1,6 @@
 use borrow.Author.Needs.{needs}
 use native.Mathlib.Omega.{arith}
+use native.Mathlib.Nat.{pos-of-ne-zero}
 use Prim.Native.Nat.{ℕ}
 use Rattle.wiresize.proofs.compute_union_wire_size.Reads as compute-union-wire-size
 use Rattle.wiresize.proofs.+compute_message_wire_size+compute_resolved_type_wire_size+compute_type_wire_size+compute_union_wire_size+named_type_wire_size.Lts-compute_union_wire_size as compute-union-wire-size-lts
@@ -12,13 +13,13 @@ use Rattle.measures.proofs.widen.Reads as widen-reads
 use Rattle.number.proofs.read_below.Reads as read-below-reads
 use Rattle.wiresize.proofs.compute_type_wire_size.Reads as compute-type-wire-size
 use Rattle.wiresize.proofs.+compute_message_wire_size+compute_resolved_type_wire_size+compute_type_wire_size+compute_union_wire_size+named_type_wire_size.Proof.Common.{compute-type-wire-size-below, compute-union-wire-size-at}
-use mathlib.Core.Path.{_≡_, refl, sym}
+use mathlib.Core.Path.{_≡_, refl, sym, _∙_}
 use mathlib.Core.Bool.{false}
 use mathlib.Core.Logic.{⊎-elim}
-use Rattle.number.proofs.Reading.{told}
+use Rattle.number.proofs.Reading.{told, many-length}
 use Rattle.wiresize.proofs.Ended.{not-refused}
 use Rattle.wiresize.proofs.Fields.{FieldsLeft, next-field, total-runs, field-turn, field-over, count-read}
-use Rattle.wiresize.proofs.Variants.{clash, VariantsLeft, variants-start, next-variant, variant-start, variant-turn, variant-over, variants-end, variants-behind}
+use Rattle.wiresize.proofs.Variants.{clash, union-none, VariantsLeft, variants-start, next-variant, variant-start, variant-turn, variant-over, variants-end, variants-behind}
 use Rattle.wiresize.proofs.Measure.{field-in-body}
 
 abbrev Inv-loop : compute-union-wire-size-lts.InvT-loop
@@ -49,8 +50,13 @@ module _ (t : ℕ) where
   returns : compute-union-wire-size-lts.Need-returns env (compute-union-wire-size-at t) compute-union-wire-size.Post Inv-loop μ-loop Inv-variants μ-variants
   returns c = record { worked = λ vs end q. absurd (not-refused (told (c .before .before .read-below .ensures) (c .enum-told .given .1)) (count-read _ _ _ q .2)) }
 
+  returns-2 : compute-union-wire-size-lts.Need-returns-2 env (compute-union-wire-size-at t) compute-union-wire-size.Post Inv-loop μ-loop Inv-variants μ-variants
+  returns-2 c = record {
+    worked = λ vs end q st H. union-none _ vs (many-length _ _ _ _ vs end (variants-behind _ _ _ (told (c .before .before .before .before .read-below .ensures) (c .before .before .count .given .1)) q) ∙ c .if1 .taken);
+  }
+
   variants-holds : compute-union-wire-size-lts.Need-variants-holds env (compute-union-wire-size-at t) compute-union-wire-size.Post Inv-loop μ-loop Inv-variants μ-variants
-  variants-holds c = (refl, variants-start _ _ _ _ _ _ _ _ (variants-behind _ _ _ (told (c .before .before .before .read-below .ensures) (c .before .count .given .1)) (c .before .before .before .before .before .before .before .pre .1 .reads)))
+  variants-holds c = (refl, variants-start _ _ _ _ _ _ _ _ (variants-behind _ _ _ (told (c .before .before .before .before .read-below .ensures) (c .before .before .count .given .1)) (c .before .before .before .before .before .before .before .before .pre .1 .reads)))
 
   read-below-requires-2 : compute-union-wire-size-lts.Need-read-below-requires-2 env (compute-union-wire-size-at t) compute-union-wire-size.Post Inv-loop μ-loop Inv-variants μ-variants
   read-below-requires-2 c κs = search needs
@@ -61,8 +67,8 @@ module _ (t : ℕ) where
   enum-told-2 : compute-union-wire-size-lts.Need-enum-told-2 env (compute-union-wire-size-at t) compute-union-wire-size.Post Inv-loop μ-loop Inv-variants μ-variants
   enum-told-2 c = search needs
 
-  returns-2 : compute-union-wire-size-lts.Need-returns-2 env (compute-union-wire-size-at t) compute-union-wire-size.Post Inv-loop μ-loop Inv-variants μ-variants
-  returns-2 c = absurd (not-refused (told (c .before .before .read-below2 .ensures) (c .enum-told2 .given .1)) (count-read _ _ _ (next-variant _ _ _ _ _ _ (c .before .before .before .before .variants .inv .1) (c .before .before .before .variants-test .taken) .here) .2))
+  returns-3 : compute-union-wire-size-lts.Need-returns-3 env (compute-union-wire-size-at t) compute-union-wire-size.Post Inv-loop μ-loop Inv-variants μ-variants
+  returns-3 c = absurd (not-refused (told (c .before .before .read-below2 .ensures) (c .enum-told2 .given .1)) (count-read _ _ _ (next-variant _ _ _ _ _ _ (c .before .before .before .before .variants .inv .1) (c .before .before .before .variants-test .taken) .here) .2))
 
   empty-total-requires : compute-union-wire-size-lts.Need-empty-total-requires env (compute-union-wire-size-at t) compute-union-wire-size.Post Inv-loop μ-loop Inv-variants μ-variants
   empty-total-requires c κs = search needs
@@ -73,7 +79,7 @@ module _ (t : ℕ) where
   compute-type-wire-size-requires : compute-union-wire-size-lts.Need-compute-type-wire-size-requires env (compute-union-wire-size-at t) compute-union-wire-size.Post Inv-loop μ-loop Inv-variants μ-variants
   compute-type-wire-size-requires c κs =
       let f = next-field _ _ _ _ _ _ (c .before .loop .inv .1) (c .loop-test .taken) in
-      (omega (arith, field-in-body (c .before .before .before .before .before .before .before .before .before .before .before .before .before .before .before .before .args .working .now), c .before .before .before .before .before .before .before .before .before .before .before .before .before .before .before .before .pre .0), record { ready = c .before .before .before .before .before .before .before .before .before .before .before .before .before .before .before .before .pre .1 .ready; thing = _; end = _; reads = f .here })
+      (omega (arith, field-in-body (c .before .before .before .before .before .before .before .before .before .before .before .before .before .before .before .before .before .args .working .now), c .before .before .before .before .before .before .before .before .before .before .before .before .before .before .before .before .before .pre .0), record { ready = c .before .before .before .before .before .before .before .before .before .before .before .before .before .before .before .before .before .pre .1 .ready; thing = _; end = _; reads = f .here })
 
   with-field-requires : compute-union-wire-size-lts.Need-with-field-requires env (compute-union-wire-size-at t) compute-union-wire-size.Post Inv-loop μ-loop Inv-variants μ-variants
   with-field-requires c κs = total-runs _ _ _ _ _ _ (c .before .before .loop .inv .1)
@@ -85,7 +91,7 @@ module _ (t : ℕ) where
   loop-less c = omega arith
 
   loop-again : compute-union-wire-size-lts.Need-loop-again env (compute-union-wire-size-at t) compute-union-wire-size.Post Inv-loop μ-loop Inv-variants μ-variants
-  loop-again c = (c .before .before .before .before .before .before .loop .inv .0, field-turn _ _ _ _ _ _ (c .before .before .before .before .before .before .loop .inv .1) (c .before .before .before .before .before .loop-test .taken) _ (c .before .before .before .before .compute-type-wire-size .ensures) (c .before .before .before .with-field .ensures) (not-false _ (c .before .if1 .left)))
+  loop-again c = (c .before .before .before .before .before .before .loop .inv .0, field-turn _ _ _ _ _ _ (c .before .before .before .before .before .before .loop .inv .1) (c .before .before .before .before .before .loop-test .taken) _ (c .before .before .before .before .compute-type-wire-size .ensures) (c .before .before .before .with-field .ensures) (not-false _ (c .before .if2 .left)))
 
   total-size-requires : compute-union-wire-size-lts.Need-total-size-requires env (compute-union-wire-size-at t) compute-union-wire-size.Post Inv-loop μ-loop Inv-variants μ-variants
   total-size-requires c κs = search needs
@@ -102,30 +108,30 @@ module _ (t : ℕ) where
   variants-again : compute-union-wire-size-lts.Need-variants-again env (compute-union-wire-size-at t) compute-union-wire-size.Post Inv-loop μ-loop Inv-variants μ-variants
   variants-again c = (c .before .before .before .loop .inv .0, variant-turn _ _ _ _ _ _ (c .before .before .before .before .before .before .before .before .before .before .variants .inv .1) (c .before .before .before .before .before .before .before .before .before .variants-test .taken) (told (c .before .before .before .before .before .before .before .before .read-below2 .ensures) (c .before .before .before .before .before .before .fields .given .1)) (c .before .before .before .loop .inv .1) (c .before .before .loop-test .left) (c .before .total-size .ensures) (c .widen .ensures))
 
-  returns-3 : compute-union-wire-size-lts.Need-returns-3 env (compute-union-wire-size-at t) compute-union-wire-size.Post Inv-loop μ-loop Inv-variants μ-variants
-  returns-3 c =
+  returns-4 : compute-union-wire-size-lts.Need-returns-4 env (compute-union-wire-size-at t) compute-union-wire-size.Post Inv-loop μ-loop Inv-variants μ-variants
+  returns-4 c =
       record {
         worked = λ vs end q st H.
             ⊎-elim
-            (λ w. absurd (clash (c .if2 .taken) (w .2) (c .before .before .variants .inv .0)))
+            (λ w. absurd (clash (c .if3 .taken) (w .2) (c .before .before .variants .inv .0)))
             (λ w.
             variant-over _ _ _ _ _ _ (c .before .before .variants .inv .1) (w .0 .taken) (told (w .1 .ensures) (w .3 .given .1))
-            (field-over _ _ _ _ _ _ (w .6 .inv .1) (w .7 .taken) _ (w .8 .ensures) (w .9 .ensures) (not-true _ (w .11 .taken))) vs end (variants-behind _ _ _ (told (c .before .before .before .before .before .before .read-below .ensures) (c .before .before .before .before .count .given .1)) q) st H)
+            (field-over _ _ _ _ _ _ (w .6 .inv .1) (w .7 .taken) _ (w .8 .ensures) (w .9 .ensures) (not-true _ (w .11 .taken))) vs end (variants-behind _ _ _ (told (c .before .before .before .before .before .before .before .read-below .ensures) (c .before .before .before .before .before .count .given .1)) q) st H)
             (c .before .variants-test .came);
       }
 
   tag-requires : compute-union-wire-size-lts.Need-tag-requires env (compute-union-wire-size-at t) compute-union-wire-size.Post Inv-loop μ-loop Inv-variants μ-variants
   tag-requires c κs = search needs
 
-  returns-4 : compute-union-wire-size-lts.Need-returns-4 env (compute-union-wire-size-at t) compute-union-wire-size.Post Inv-loop μ-loop Inv-variants μ-variants
-  returns-4 c =
+  returns-5 : compute-union-wire-size-lts.Need-returns-5 env (compute-union-wire-size-at t) compute-union-wire-size.Post Inv-loop μ-loop Inv-variants μ-variants
+  returns-5 c =
       record {
         worked = λ vs end q st H.
             ⊎-elim
-            (λ w. variants-end _ _ _ _ _ _ (c .before .before .before .variants .inv .1) (w .0 .left) (c .tag .ensures) vs end (variants-behind _ _ _ (told (c .before .before .before .before .before .before .before .read-below .ensures) (c .before .before .before .before .before .count .given .1)) q) st H)
-            (λ w. absurd (clash refl (sym (w .13)) (c .before .if2 .left)))
+            (λ w. variants-end _ _ _ _ _ _ (c .before .before .before .variants .inv .1) (pos-of-ne-zero (c .before .before .before .before .if1 .left)) (w .0 .left) (c .tag .ensures) vs end (variants-behind _ _ _ (told (c .before .before .before .before .before .before .before .before .read-below .ensures) (c .before .before .before .before .before .before .count .given .1)) q) st H)
+            (λ w. absurd (clash refl (sym (w .13)) (c .before .if3 .left)))
             (c .before .before .variants-test .came);
       }
 
   pub spec : {M : Type 1} → compute-union-wire-size-lts.Closed env (compute-union-wire-size-at t) compute-union-wire-size.Post M
-  spec = compute-union-wire-size-lts.spec env (compute-union-wire-size-at t) compute-union-wire-size.Post Inv-loop μ-loop Inv-variants μ-variants read-below-requires enum-known-count enum-told returns variants-holds read-below-requires-2 enum-known-fields enum-told-2 returns-2 empty-total-requires loop-holds compute-type-wire-size-requires with-field-requires sub-more loop-less loop-again total-size-requires widen-requires sub-left variants-less variants-again returns-3 tag-requires returns-4
+  spec = compute-union-wire-size-lts.spec env (compute-union-wire-size-at t) compute-union-wire-size.Post Inv-loop μ-loop Inv-variants μ-variants read-below-requires enum-known-count enum-told returns returns-2 variants-holds read-below-requires-2 enum-known-fields enum-told-2 returns-3 empty-total-requires loop-holds compute-type-wire-size-requires with-field-requires sub-more loop-less loop-again total-size-requires widen-requires sub-left variants-less variants-again returns-4 tag-requires returns-5
