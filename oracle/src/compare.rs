@@ -137,7 +137,7 @@ impl Pair {
         let whole = worked_out(image, self.ours);
         let column = column(&whole, self.ours);
         self.outcome.tally.count(family, column);
-        self.outcome.tally.deepen(whole.deepest);
+        self.outcome.tally.look_into(&whole);
         let differs = first_difference(image, &whole, self.ours, &mut self.outcome.calls);
         if differs.is_some() {
             stop.store(true, Ordering::Relaxed);

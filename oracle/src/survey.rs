@@ -41,7 +41,7 @@ fn part(selection: Selection, worker: u64) -> Survey {
             survey.failed = Some(image.to_vec());
             return ControlFlow::Break(());
         };
-        survey.tally.deepen(whole.deepest);
+        survey.tally.look_into(&whole);
         let column = match &whole.answer(places) {
             Ok(Answer::Refused { number, .. }) => *number as usize,
             Ok(Answer::Accepted { findings, .. }) => {

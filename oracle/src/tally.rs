@@ -2,6 +2,7 @@
 
 use std::fmt;
 
+use crate::answer::{Unions, Whole};
 use crate::generate::FAMILIES;
 
 /// Columns: accepted, refusals 1 to 12, and checks that would take too long.
@@ -17,6 +18,7 @@ pub struct Tally {
     /// Images that go deep, and how deep the deepest goes.
     deep: u64,
     deepest: u64,
+    unions: Unions,
 }
 
 impl Default for Tally {
@@ -25,6 +27,7 @@ impl Default for Tally {
             rows: vec![[0; COLUMNS]; FAMILIES.len()],
             deep: 0,
             deepest: 0,
+            unions: [0; 3],
         }
     }
 }
@@ -34,24 +37,33 @@ impl Tally {
         self.rows[family][column] += 1;
     }
 
-    /// Counts how deep the calls for one image go.
-    pub fn deepen(&mut self, depth: u64) {
-        self.deep += u64::from(depth >= DEEP);
-        self.deepest = self.deepest.max(depth);
+    /// Counts how deep the calls for one image go, and the turns of unions.
+    pub fn look_into(&mut self, whole: &Whole) {
+        self.deep += u64::from(whole.deepest >= DEEP);
+        self.deepest = self.deepest.max(whole.deepest);
+        add_counts(&mut self.unions, &whole.unions);
     }
 
     pub fn add(&mut self, other: &Tally) {
         for (row, more) in self.rows.iter_mut().zip(&other.rows) {
-            add_row(row, more);
+            add_counts(row, more);
         }
         self.deep += other.deep;
         self.deepest = self.deepest.max(other.deepest);
+        add_counts(&mut self.unions, &other.unions);
+    }
+
+    /// Turns of unions in the images that have a size table.
+    pub fn unions(&self) -> Unions {
+        self.unions
     }
 
     /// How often each number was answered, over all families.
     pub fn totals(&self) -> [u64; COLUMNS] {
         let mut totals = [0; COLUMNS];
-        self.rows.iter().for_each(|row| add_row(&mut totals, row));
+        self.rows
+            .iter()
+            .for_each(|row| add_counts(&mut totals, row));
         totals
     }
 
@@ -60,8 +72,8 @@ impl Tally {
     }
 }
 
-fn add_row(row: &mut [u64; COLUMNS], more: &[u64; COLUMNS]) {
-    for (count, more) in row.iter_mut().zip(more) {
+fn add_counts<const N: usize>(counts: &mut [u64; N], more: &[u64; N]) {
+    for (count, more) in counts.iter_mut().zip(more) {
         *count += more;
     }
 }
@@ -94,6 +106,11 @@ impl fmt::Display for Tally {
         writeln!(
             out,
             "calls one in another: {deepest} at most, {DEEP} or more on {deep} images"
+        )?;
+        let [none, one, more] = self.unions;
+        writeln!(
+            out,
+            "turns of unions: {none} without variants, {one} with one, {more} with more"
         )
     }
 }

@@ -1,13 +1,26 @@
 //! The lines of document 01's bench sheet.
 
 use oracle::answer::{answer, Answer, PROGRAM_PLACES};
+use oracle::format::SIZE_LIMIT;
 use oracle::model::{
-    declared, field, fixed, message, pair, wrap, Schema, Slot, Stored, Tree, BOOL, OPTIONAL,
+    declared, field, fixed, message, pair, wrap, Field, Schema, Slot, Stored, Tree, BOOL, OPTIONAL,
     RESULT, U32, U8, VEC3,
 };
 
 fn answered(schema: &Schema) -> Answer {
     answer(&schema.bytes(), PROGRAM_PLACES).expect("a short check")
+}
+
+const TOO_LARGE: Answer = Answer::Refused {
+    number: 11,
+    place: 0,
+};
+
+fn union(variants: Vec<Vec<Field>>) -> Slot {
+    Slot::Union {
+        stored: Stored::None,
+        variants,
+    }
 }
 
 /// The row of slot 0 and the findings.
@@ -71,11 +84,32 @@ fn sizes_of_types() {
 
 #[test]
 fn size_of_a_union() {
-    let union = Slot::Union {
-        stored: Stored::None,
-        variants: vec![vec![field(0, U8)], vec![field(0, U32)]],
-    };
-    assert_eq!(row(union), [2, 16, 40]);
+    let variants = vec![vec![field(0, U8)], vec![field(0, U32)]];
+    assert_eq!(row(union(variants)), [2, 16, 40]);
+    assert_eq!(row(union(vec![])), [2, 8, 8]);
+    assert_eq!(row(union(vec![vec![]])), [2, 8, 8]);
+    assert_eq!(row(union(vec![vec![], vec![field(0, U8)]])), [2, 8, 16]);
+}
+
+/// Request W5: the greatest smallest there is, and variants as long as the
+/// mark or one bit above the limit, alone and beside an empty one.
+#[test]
+fn no_union_keeps_the_mark() {
+    let bools = |bits| vec![field(0, fixed(BOOL, bits))];
+    let most = SIZE_LIMIT - 8;
+    assert_eq!(row(union(vec![bools(most)])), [2, SIZE_LIMIT, SIZE_LIMIT]);
+    for bits in [u64::MAX, SIZE_LIMIT + 1, SIZE_LIMIT] {
+        let long = || bools(bits);
+        for variants in [
+            vec![long()],
+            vec![long(), vec![]],
+            vec![vec![], long()],
+            vec![long(), long()],
+        ] {
+            let schema = declared(vec![0], vec![union(variants)]);
+            assert_eq!(answered(&schema), TOO_LARGE, "{bits}");
+        }
+    }
 }
 
 #[test]
@@ -101,9 +135,5 @@ fn limit_of_sizes() {
     let schema = |size| declared(vec![0], vec![array(size)]);
     let most = (1 << 60) - 1;
     assert_eq!(accepted(&schema(most)).0, [1, 8 * most, 8 * most]);
-    let refused = Answer::Refused {
-        number: 11,
-        place: 0,
-    };
-    assert_eq!(answered(&schema(1 << 60)), refused);
+    assert_eq!(answered(&schema(1 << 60)), TOO_LARGE);
 }

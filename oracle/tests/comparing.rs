@@ -2,6 +2,8 @@
 
 use oracle::compare::{compare, exhaustive, smallest_difference, Outcome, Selection};
 use oracle::generate::{family_named, Families};
+use oracle::import::import;
+use oracle::ir::TypeDef;
 use oracle::library::{Call, Library, Verdict, REFERENCE};
 
 const SELECTION: Selection = Selection {
@@ -39,6 +41,8 @@ fn reference_equals_itself() {
     let outcome = compare(selection, REFERENCE);
     assert_eq!(outcome.difference, None);
     assert_eq!(outcome.tally.images(), selection.count);
+    let unions = outcome.tally.unions();
+    assert!(unions.iter().all(|&turns| turns > 50), "{unions:?}");
     // Refusal 1 takes long images, which are rare.
     for number in (0..=12).filter(|&number| number != 1) {
         assert!(outcome.calls[number] > 0, "no call answers {number}");
@@ -149,6 +153,59 @@ fn families_show_wrong_sizes() {
         ..SIZES
     };
     assert!(run_family("deep", long_stack_only).difference.is_some());
+}
+
+/// How many variants a slot has, if it is a declared union.
+fn variants_of(image: &[u8], slot: u64) -> Option<usize> {
+    let schema = import(image).ok()?.schema;
+    let mut declared = schema.declarations.iter();
+    let id = declared.find(|id| u64::from(id.index()) == slot)?;
+    match schema.registry.get(*id)? {
+        TypeDef::Union(un) => Some(un.variants.len()),
+        _ => None,
+    }
+}
+
+/// The reference, but for unions of so many variants, which have this row.
+fn unions_as(variants: usize, row: [u64; 3], image: &[u8], sizes: &mut [u64]) -> Verdict {
+    let verdict = (REFERENCE.sizes)(image, sizes);
+    for (slot, place) in sizes.chunks_exact_mut(3).enumerate() {
+        if verdict.number == 0 && variants_of(image, slot as u64) == Some(variants) {
+            place.copy_from_slice(&row);
+        }
+    }
+    verdict
+}
+
+/// The images compared tell each wrong union from the right one.
+#[test]
+fn families_show_wrong_unions() {
+    let empty_to_nine = Library {
+        sizes: |image, sizes| unions_as(0, [2, 8, 9], image, sizes),
+        ..SIZES
+    };
+    assert!(run_family("valid", empty_to_nine).difference.is_some());
+    let smallest = [0, 1, 4, 0, 0, 1, 0];
+    let difference = smallest_difference(&smallest, empty_to_nine);
+    assert_eq!(difference.expect("a difference").image, smallest);
+
+    let one_as_none = Library {
+        sizes: |image, sizes| unions_as(1, [2, 8, 8], image, sizes),
+        ..SIZES
+    };
+    assert!(run_family("valid", one_as_none).difference.is_some());
+
+    let no_variant_tested = Library {
+        sizes: |image, sizes| {
+            let verdict = (REFERENCE.sizes)(image, sizes);
+            match verdict.number {
+                11 if variants_of(image, verdict.value).is_some() => refused(0),
+                _ => verdict,
+            }
+        },
+        ..SIZES
+    };
+    assert!(run_family("edges", no_variant_tested).difference.is_some());
 }
 
 #[test]

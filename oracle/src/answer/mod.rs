@@ -13,7 +13,7 @@ use std::fmt::Write;
 
 use crate::import::Refusal;
 pub use steps::TooLong;
-pub use whole::Whole;
+pub use whole::{Unions, Whole};
 
 /// Lent places: u64 for sizes, u32 for findings.
 #[derive(Debug, Clone, Copy, PartialEq, Eq)]

@@ -27,6 +27,9 @@ impl From<Stop> for Failure {
     }
 }
 
+/// Counts of unions without variants, with one, with more.
+pub type Unions = [u64; 3];
+
 /// Slot starts, sizes and findings of an image, or why there are none.
 #[derive(Debug, Clone)]
 pub struct Whole {
@@ -34,6 +37,8 @@ pub struct Whole {
     pub starts: Vec<u32>,
     /// Most calls that stood one in another while sizes were worked out.
     pub deepest: u64,
+    /// Turns of unions, by how many variants they have, if there is a table.
+    pub unions: Unions,
     sizes: Result<Vec<u64>, Failure>,
     findings: Result<Vec<u32>, TooLong>,
 }
@@ -53,6 +58,7 @@ impl Whole {
         let mut whole = Self {
             starts: Vec::new(),
             deepest: 0,
+            unions: [0; 3],
             sizes: Err(Failure::TooLong),
             findings: Err(TooLong),
         };
@@ -87,6 +93,7 @@ impl Whole {
         let sizes = stored_table(&schema);
         assert_eq!(sizes, expected, "sizes worked out here and upstream");
         self.sizes = Ok(sizes);
+        self.unions = union_turns(&schema);
     }
 
     /// The refusal of reading, if it is one.
@@ -132,6 +139,16 @@ impl Whole {
             findings,
         })
     }
+}
+
+fn union_turns(schema: &CompiledSchema) -> Unions {
+    let mut counts = [0; 3];
+    for &id in &schema.declarations {
+        if let Some(TypeDef::Union(un)) = schema.registry.get(id) {
+            counts[un.variants.len().min(2)] += 1;
+        }
+    }
+    counts
 }
 
 /// The size table of a schema as it stands: three numbers a slot.
