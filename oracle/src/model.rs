@@ -139,6 +139,14 @@ pub fn message(slot: u64, fields: Vec<Field>) -> Slot {
     }
 }
 
+/// A union without stored size.
+pub fn union(variants: Vec<Vec<Field>>) -> Slot {
+    Slot::Union {
+        stored: Stored::None,
+        variants,
+    }
+}
+
 #[derive(Debug, Clone, PartialEq, Default)]
 pub struct Schema {
     /// Per name 0, or the slot it finds + 1.

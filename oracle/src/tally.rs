@@ -2,12 +2,18 @@
 
 use std::fmt;
 
-use crate::answer::{Unions, Whole};
+use crate::answer::{Operation, Part, PassedLimit, Unions, Whole};
 use crate::generate::FAMILIES;
 
-/// Columns: accepted, refusals 1 to 12, and checks that would take too long.
-pub const TOO_LONG: usize = 13;
+/// The answers there are: accepted, and the refusals.
+pub const NUMBERS: [usize; 14] = [0, 1, 2, 3, 4, 5, 6, 7, 8, 9, 10, 11, 12, 14];
+
+/// Columns: one a number, and checks that would take too long.
+pub const TOO_LONG: usize = NUMBERS[NUMBERS.len() - 1] + 1;
 pub const COLUMNS: usize = TOO_LONG + 1;
+
+/// First steps past the limit: by the part they stand in, sums and products.
+pub type FirstSteps = [[u64; 2]; Part::ALL.len()];
 
 /// Calls one in another from which on an image counts as deep.
 const DEEP: u64 = 1_000;
@@ -19,6 +25,7 @@ pub struct Tally {
     deep: u64,
     deepest: u64,
     unions: Unions,
+    first_steps: FirstSteps,
 }
 
 impl Default for Tally {
@@ -28,6 +35,7 @@ impl Default for Tally {
             deep: 0,
             deepest: 0,
             unions: [0; 3],
+            first_steps: FirstSteps::default(),
         }
     }
 }
@@ -37,11 +45,25 @@ impl Tally {
         self.rows[family][column] += 1;
     }
 
-    /// Counts how deep the calls for one image go, and the turns of unions.
+    /// Counts how deep the calls for one image go, the turns of unions, and
+    /// the step that passes the limit.
     pub fn look_into(&mut self, whole: &Whole) {
         self.deep += u64::from(whole.deepest >= DEEP);
         self.deepest = self.deepest.max(whole.deepest);
         add_counts(&mut self.unions, &whole.unions);
+        if let Some(passed) = whole.passed_limit() {
+            self.count_first_step(passed);
+        }
+    }
+
+    fn count_first_step(&mut self, passed: PassedLimit) {
+        for (counts, inside) in self.first_steps.iter_mut().zip(passed.inside) {
+            let [sums, products] = counts;
+            match passed.operation {
+                Operation::Sum => *sums += u64::from(inside),
+                Operation::Product => *products += u64::from(inside),
+            }
+        }
     }
 
     pub fn add(&mut self, other: &Tally) {
@@ -51,6 +73,14 @@ impl Tally {
         self.deep += other.deep;
         self.deepest = self.deepest.max(other.deepest);
         add_counts(&mut self.unions, &other.unions);
+        for (counts, more) in self.first_steps.iter_mut().zip(&other.first_steps) {
+            add_counts(counts, more);
+        }
+    }
+
+    /// Images with a step past the limit, by the first such step.
+    pub fn first_steps(&self) -> FirstSteps {
+        self.first_steps
     }
 
     /// Turns of unions in the images that have a size table.
@@ -111,6 +141,17 @@ impl fmt::Display for Tally {
         writeln!(
             out,
             "turns of unions: {none} without variants, {one} with one, {more} with more"
+        )?;
+        let told = Part::ALL.iter().zip(self.first_steps);
+        let told = told.map(|(part, [sums, products])| {
+            let name = part.name();
+            format!("{name} {sums} and {products}")
+        });
+        let told: Vec<String> = told.collect();
+        writeln!(
+            out,
+            "first steps past the limit, sums and products in a {}",
+            told.join(", ")
         )
     }
 }

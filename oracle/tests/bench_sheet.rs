@@ -3,25 +3,23 @@
 use oracle::answer::{answer, Answer, PROGRAM_PLACES};
 use oracle::format::SIZE_LIMIT;
 use oracle::model::{
-    declared, field, fixed, message, pair, wrap, Field, Schema, Slot, Stored, Tree, BOOL, OPTIONAL,
-    RESULT, U32, U8, VEC3,
+    declared, field, fixed, message, pair, union, wrap, Schema, Slot, Tree, BOOL, OPTIONAL, RESULT,
+    U32, U8, VEC3,
 };
 
 fn answered(schema: &Schema) -> Answer {
     answer(&schema.bytes(), PROGRAM_PLACES).expect("a short check")
 }
 
-const TOO_LARGE: Answer = Answer::Refused {
+const SUM_TOO_LARGE: Answer = Answer::Refused {
     number: 11,
     place: 0,
 };
 
-fn union(variants: Vec<Vec<Field>>) -> Slot {
-    Slot::Union {
-        stored: Stored::None,
-        variants,
-    }
-}
+const PRODUCT_TOO_LARGE: Answer = Answer::Refused {
+    number: 14,
+    place: 0,
+};
 
 /// The row of slot 0 and the findings.
 fn accepted(schema: &Schema) -> ([u64; 3], Vec<u32>) {
@@ -98,7 +96,11 @@ fn no_union_keeps_the_mark() {
     let bools = |bits| vec![field(0, fixed(BOOL, bits))];
     let most = SIZE_LIMIT - 8;
     assert_eq!(row(union(vec![bools(most)])), [2, SIZE_LIMIT, SIZE_LIMIT]);
-    for bits in [u64::MAX, SIZE_LIMIT + 1, SIZE_LIMIT] {
+    for (bits, refused) in [
+        (u64::MAX, PRODUCT_TOO_LARGE),
+        (SIZE_LIMIT + 1, PRODUCT_TOO_LARGE),
+        (SIZE_LIMIT, SUM_TOO_LARGE),
+    ] {
         let long = || bools(bits);
         for variants in [
             vec![long()],
@@ -107,7 +109,7 @@ fn no_union_keeps_the_mark() {
             vec![long(), long()],
         ] {
             let schema = declared(vec![0], vec![union(variants)]);
-            assert_eq!(answered(&schema), TOO_LARGE, "{bits}");
+            assert_eq!(answered(&schema), refused, "{bits}");
         }
     }
 }
@@ -135,5 +137,6 @@ fn limit_of_sizes() {
     let schema = |size| declared(vec![0], vec![array(size)]);
     let most = (1 << 60) - 1;
     assert_eq!(accepted(&schema(most)).0, [1, 8 * most, 8 * most]);
-    assert_eq!(answered(&schema(1 << 60)), TOO_LARGE);
+    // Request W2: 14, and no longer 11.
+    assert_eq!(answered(&schema(1 << 60)), PRODUCT_TOO_LARGE);
 }

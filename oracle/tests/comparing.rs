@@ -1,10 +1,12 @@
 //! The comparer and the shrinker, with libraries that are wrong on purpose.
 
+use oracle::answer::Part;
 use oracle::compare::{compare, exhaustive, smallest_difference, Outcome, Selection};
 use oracle::generate::{family_named, Families};
 use oracle::import::import;
 use oracle::ir::TypeDef;
 use oracle::library::{Call, Library, Verdict, REFERENCE};
+use oracle::tally::NUMBERS;
 
 const SELECTION: Selection = Selection {
     count: 20_000,
@@ -43,8 +45,12 @@ fn reference_equals_itself() {
     assert_eq!(outcome.tally.images(), selection.count);
     let unions = outcome.tally.unions();
     assert!(unions.iter().all(|&turns| turns > 50), "{unions:?}");
+    let first_steps = outcome.tally.first_steps();
+    for (part, counts) in Part::ALL.iter().zip(first_steps) {
+        assert!(counts.iter().all(|&count| count > 5), "{part:?} {counts:?}");
+    }
     // Refusal 1 takes long images, which are rare.
-    for number in (0..=12).filter(|&number| number != 1) {
+    for number in NUMBERS.into_iter().filter(|&number| number != 1) {
         assert!(outcome.calls[number] > 0, "no call answers {number}");
     }
 }
@@ -133,7 +139,7 @@ fn families_show_wrong_sizes() {
         sizes: |image, sizes| {
             let verdict = (REFERENCE.sizes)(image, sizes);
             match verdict.number {
-                11 => refused(0),
+                11 | 14 => refused(0),
                 _ => verdict,
             }
         },
@@ -153,6 +159,27 @@ fn families_show_wrong_sizes() {
         ..SIZES
     };
     assert!(run_family("deep", long_stack_only).difference.is_some());
+}
+
+/// The images compared tell a sum from a product.
+#[test]
+fn families_show_wrong_numbers() {
+    let all_sums: Library = Library {
+        sizes: |image, sizes| {
+            let verdict = (REFERENCE.sizes)(image, sizes);
+            let number = match verdict.number {
+                14 => 11,
+                number => number,
+            };
+            Verdict { number, ..verdict }
+        },
+        ..SIZES
+    };
+    for family in ["limits", "edges"] {
+        let difference = run_family(family, all_sums).difference;
+        let difference = difference.expect("a difference");
+        assert_eq!(difference.expected.verdict.number, 14, "{family}");
+    }
 }
 
 /// How many variants a slot has, if it is a declared union.
@@ -199,7 +226,7 @@ fn families_show_wrong_unions() {
         sizes: |image, sizes| {
             let verdict = (REFERENCE.sizes)(image, sizes);
             match verdict.number {
-                11 if variants_of(image, verdict.value).is_some() => refused(0),
+                11 | 14 if variants_of(image, verdict.value).is_some() => refused(0),
                 _ => verdict,
             }
         },

@@ -1,4 +1,5 @@
 // Sizes made of sizes, by value. A number that passes the limit 2^63 - 1 is cut to 2^63, which passes it as well.
+use sizes::Operation;
 use sizes::Size;
 use sizes::Worked;
 ghost use mathlib.Core.Path.{_≡_};
@@ -108,30 +109,30 @@ fn greater_bound(a: Bound, b: Bound) -> Bound
     }
 }
 
-// The size, unless a number of it passes the limit.
-fn within_limit(size: Size) -> Worked
-    ensures { λ r. ⌜ r ≡ limited size ⌝ }
+// The size that an operation made, unless a number of it passes the limit.
+fn within_limit(by: Operation, size: Size) -> Worked
+    ensures { λ r. ⌜ r ≡ limited by size ⌝ }
 {
     match size {
         Size::Fixed(b) => {
             if b > 9223372036854775807 {
-                Worked::Over
+                Worked::Over(by)
             } else {
                 Worked::Sized(size)
             }
         }
         Size::Bounded(l, h) => {
             if l > 9223372036854775807 {
-                Worked::Over
+                Worked::Over(by)
             } else if h > 9223372036854775807 {
-                Worked::Over
+                Worked::Over(by)
             } else {
                 Worked::Sized(size)
             }
         }
         Size::Open(l) => {
             if l > 9223372036854775807 {
-                Worked::Over
+                Worked::Over(by)
             } else {
                 Worked::Sized(size)
             }
@@ -217,9 +218,12 @@ pub fn multiply_wire_size(size: Size, count: u64) -> Worked
     ensures { λ r. ⌜ r ≡ limitedProduct (multiplied count size) ⌝ }
 {
     match size {
-        Size::Fixed(b) => within_limit(Size::Fixed(product(b, count))),
-        Size::Bounded(l, h) => within_limit(Size::Bounded(product(l, count), product(h, count))),
-        Size::Open(l) => within_limit(Size::Open(product(l, count))),
+        Size::Fixed(b) => within_limit(Operation::Product, Size::Fixed(product(b, count))),
+        Size::Bounded(l, h) => within_limit(
+            Operation::Product,
+            Size::Bounded(product(l, count), product(h, count)),
+        ),
+        Size::Open(l) => within_limit(Operation::Product, Size::Open(product(l, count))),
     }
 }
 
@@ -258,7 +262,8 @@ pub fn fixed_array_wire_size(size: Size, count: u64) -> Worked
 pub fn optional_wire_size(size: Size) -> Worked
     ensures { λ r. ⌜ r ≡ limitedSum (optionalSize size) ⌝ }
 {
-    within_limit(vary(1, sum_bounds(Bound::Most(1), wire_size_max_bits(size))))
+    let optional = vary(1, sum_bounds(Bound::Most(1), wire_size_max_bits(size)));
+    within_limit(Operation::Sum, optional)
 }
 
 // The lesser smallest up to the greater largest, if both exist.
@@ -275,10 +280,11 @@ pub fn widen(a: Size, b: Size) -> Size
 fn raise(bits: u64, size: Size) -> Worked
     ensures { λ r. ⌜ r ≡ limitedSum (raised bits size) ⌝ }
 {
-    within_limit(vary(
+    let raised = vary(
         sum(bits, wire_size_min_bits(size)),
         sum_bounds(Bound::Most(bits), wire_size_max_bits(size)),
-    ))
+    );
+    within_limit(Operation::Sum, raised)
 }
 
 pub fn result_wire_size(ok: Size, err: Size) -> Worked

@@ -260,7 +260,7 @@ fn all(fd: i32, name: &[u8], kind: Kind, image: &mut [u8], counts: &mut [u64]) {
     totals(kind, done, wrong);
 }
 
-// No answer has a number above 12, and none of reading has one above 9.
+// No answer has a number above 14, and none of reading has one above 9.
 fn replay(name: &[u8], kind: Kind) {
     let fd = os::open_read(name);
     if fd < 0 {
@@ -268,7 +268,7 @@ fn replay(name: &[u8], kind: Kind) {
         return;
     }
     let mut image = [0u8; 65537];
-    let mut counts = [0u64; 13];
+    let mut counts = [0u64; 15];
     all(fd, name, kind, &mut image, &mut counts);
     match kind {
         Kind::Reading => counted(b"answered ", &counts[0..10]),

@@ -65,8 +65,8 @@ by-mark r (v ∷ vs) = go (addVariants r (Bounded mark 0) (v ∷ vs)) refl
   where
     go : (w : Worked) → addVariants r (Bounded mark 0) (v ∷ vs) ≡ w →
         then w (λ s. limitedSum (raised 8 (unmarked s))) ≡ then w (λ s. limitedSum (raised 8 s))
-    go (Sized s) e = let z = below-mark (smallest s) (least-small r (Bounded mark 0) v vs s e) in rw z (ap limited (raised-loose s))
-    go Over e = refl
+    go (Sized s) e = let z = below-mark (smallest s) (least-small r (Bounded mark 0) v vs s e) in rw z (ap limitedSum (raised-loose s))
+    go (Over o) e = refl
 
 -- one rule for the other, in whatever is made of it: names, turns, refusals, the size table
 pub same-rule : unionSizeByMark ≡ unionSize

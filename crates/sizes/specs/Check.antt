@@ -9,7 +9,7 @@ use Rattle.slot.specs.Field.{Stored}
 use Rattle.slot.specs.Slot.{Slot, empty, message, enum, flags, union, newtype, config, alias, trait, impl}
 use Rattle.image.specs.Schema.{Schema, slotOf}
 use Rattle.sizes.specs.Widths.{enumBitsAt, flagsBytesAt}
-use Rattle.sizes.specs.Sizes.{Size, Fixed, Bounded, Open, Worked, Sized, Over, Resolver, fieldsSize, unionSize}
+use Rattle.sizes.specs.Sizes.{Size, Fixed, Bounded, Open, Operation, Worked, Sized, Over, Resolver, fieldsSize, unionSize}
 use Rattle.sizes.specs.Names.{Content, fields, variants, bits, terminal, anything, contentOf, State, nothing, inserted, nameSize}
 
 -- ## Turns
@@ -51,15 +51,15 @@ ownSize S st i = bodySize (nameSize S st (inserted i nothing)) (contentOf S i)
 unfoldable pub store : (slot : ℕ) → Size → State → State
 store i s st j = cond (eqb j i) (some s) (st j)
 
--- the sizes stored, or the declared slot being worked when a number passed the limit
+-- the sizes stored, or the declared slot being worked when a number passed the limit, and what made it
 pub data Checked : Type 0 where
   accepted : State → Checked
-  refused : (slot : ℕ) → Checked
+  refused : Operation → (slot : ℕ) → Checked
 
 unfoldable pub storing : State → (slot : ℕ) → Option Worked → Checked
 storing st i none = accepted st
 storing st i (some (Sized s)) = accepted (store i s st)
-storing st i (some Over) = refused i
+storing st i (some (Over o)) = refused o i
 
 -- one place of the declaration list
 unfoldable pub turn : Schema → State → (slot : ℕ) → Checked
@@ -67,7 +67,7 @@ turn S st i = storing st i (ownSize S st i)
 
 unfoldable pub onward : Checked → (State → Checked) → Checked
 onward (accepted st) next = next st
-onward (refused i) next = refused i
+onward (refused o i) next = refused o i
 
 -- the places in order
 unfoldable pub turns : Schema → State → List ℕ → Checked

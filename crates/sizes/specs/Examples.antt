@@ -3,25 +3,25 @@ use mathlib.Core.Path.{_≡_, refl}
 use Prim.Native.Nat.{ℕ, zero, suc, _-_, _^_}
 use mathlib.Core.List.{List, [], _∷_, _++_, map}
 use mathlib.Core.Option.{none}
-use Rattle.tree.specs.Tree.{Tree, Leaf, leaf, wrap, fixedArray, pair, generic, primitive, subByte, semantic, named, bitsInline, qualified, optional, array}
+use Rattle.tree.specs.Tree.{Tree, Leaf, leaf, wrap, fixedArray, pair, generic, primitive, subByte, semantic, named, bitsInline, qualified, optional, array, vec2, resultOf}
 use Rattle.tree.specs.Encoding.{Encoding, default, varint, zigZag, delta}
 use Rattle.slot.specs.Field.{Field, Stored}
 use Rattle.slot.specs.Slot.{Slot, message, enum, flags, union, newtype}
 use Rattle.image.specs.Schema.{Schema, slotOf}
 use Rattle.sizes.specs.Widths.{highest, digits, bitLength, ordinalBits, enumBits, bytesTo, flagsBytes, has, enumBitsAt, flagsBytesAt}
-use Rattle.sizes.specs.Sizes.{limited, then, primitiveBits, semanticBits, leafSize, wrapSize, typeSize, varintEnd, zigZagEnd, encodedSize, fieldSize, addFields, addVariants, unionSize}
+use Rattle.sizes.specs.Sizes.{limited, then, refusalOf, primitiveBits, semanticBits, leafSize, wrapSize, typeSize, varintEnd, zigZagEnd, encodedSize, fieldSize, addFields, addVariants, unionSize}
 use Rattle.sizes.specs.Names.{Content, fields, variants, bits, terminal, anything, contentIn, contentOf, contentSize, nameRule, nameWithin, nameSize}
 use Rattle.sizes.specs.Check.{brought, bodySize, ownSize, store, Checked, accepted, refused, storing, turn, onward, turns, checkSizes, row, slotRow, rowsFrom, tableOf}
 use Rattle.sizes.specs.Lengths.{Length, ofPrimitive, ofSubByte, ofSemantic, ofNamed, ofBitsInline, ofQualified, ofWrap, ofFixedArray, ofMap, ofOk, ofErr, ofGeneric, absent, present, ofElements, ofCopies, noCopy, oneCopy, plain, ofVarint, ofZigZag, ofDelta, noField, oneField, ofMessage, ofVariant, ofNoVariant, ofBits, ofTerminal, ofAnything, SlotLength}
 
--- the answer of the check: the size table, or the place of refusal 11
+-- the answer of the check: the size table, or refusal 11 or 14 with its place
 pub data Answer : Type 0 where
   table : List ℕ → Answer
-  refusal : (slot : ℕ) → Answer
+  refusal : (number slot : ℕ) → Answer
 
 abbrev pub answerOf : Schema → Checked → Answer
 answerOf S (accepted st) = table (tableOf S st)
-answerOf S (refused i) = refusal i
+answerOf S (refused o i) = refusal (refusalOf o) i
 
 -- ## Schemas written short
 
@@ -94,8 +94,8 @@ pub record Line : Type 0 where
 abbrev shows : Schema → List ℕ → Line
 shows S t = record { of = S; gives = table t }
 
-abbrev refuses : Schema → (slot : ℕ) → Line
-refuses S i = record { of = S; gives = refusal i }
+abbrev refuses : Schema → (number slot : ℕ) → Line
+refuses S n i = record { of = S; gives = refusal n i }
 
 -- what the lines say, and what the check answers
 abbrev pub said : List Line → List Answer
@@ -121,12 +121,12 @@ others =
     (row 4 3 0 ++ row 2 11 43)
     -- 2^60 - 1 fixed U8, and one more
     ∷ shows (all (of (fixedArray u8 (2 ^ 60 - 1) ∷ []) ∷ [])) (row 1 (2 ^ 63 - 8) (2 ^ 63 - 8))
-    ∷ refuses (all (of (fixedArray u8 (2 ^ 60) ∷ []) ∷ [])) 0
+    ∷ refuses (all (of (fixedArray u8 (2 ^ 60) ∷ []) ∷ [])) 14 0
     -- a factor above the limit, on nothing
     ∷ shows (all (of (fixedArray (leaf (primitive 13)) (2 ^ 64 - 1) ∷ []) ∷ [])) (row 1 0 0)
     -- the elements of an array are not worked out, the element of a fixed array of size 0 is
     ∷ shows (all (of (wrap array (fixedArray u8 (2 ^ 60)) ∷ []) ∷ [])) (row 3 8 0)
-    ∷ refuses (all (of (fixedArray (fixedArray u8 (2 ^ 60)) 0 ∷ []) ∷ [])) 0
+    ∷ refuses (all (of (fixedArray (fixedArray u8 (2 ^ 60)) 0 ∷ []) ∷ [])) 14 0
     -- a Delta of Varint on a U16, and a Varint on an Optional of one
     ∷ shows (all (encoded (delta varint) u16 ∷ encoded varint (wrap optional u16) ∷ []))
     (row 2 8 24 ++ row 2 8 80)
@@ -147,10 +147,37 @@ others =
     -- a newtype of Optional M, met twice on the way from M { N }
     ∷ shows (declaring (1 ∷ []) (a-newtype (wrap optional (slot 1)) ∷ of (slot 0 ∷ []) ∷ [])) (row 0 0 0 ++ row 3 1 0)
     -- a running largest passes the limit before a field without largest
-    ∷ refuses (declaring (1 ∷ []) (a-message (Stored.bounded 0 (2 ^ 62)) [] ∷ of (slot 0 ∷ slot 0 ∷ string ∷ []) ∷ [])) 1
+    ∷ refuses (declaring (1 ∷ []) (a-message (Stored.bounded 0 (2 ^ 62)) [] ∷ of (slot 0 ∷ slot 0 ∷ string ∷ []) ∷ [])) 11 1
     -- the place is the declared slot whose turn it is
-    ∷ refuses (declaring (1 ∷ []) (of (fixedArray u8 (2 ^ 60) ∷ []) ∷ of (slot 0 ∷ []) ∷ [])) 1
+    ∷ refuses (declaring (1 ∷ []) (of (fixedArray u8 (2 ^ 60) ∷ []) ∷ of (slot 0 ∷ []) ∷ [])) 14 1
     ∷ []
+
+-- the first step that passes the limit: fields left to right, each added once worked; a Result's err side before it is added;
+-- a union's 8 last
+abbrev big : Tree
+big = fixedArray u8 (2 ^ 60 - 1)
+
+abbrev most : Tree
+most = fixedArray bool (2 ^ 63 - 1)
+
+abbrev over : Tree
+over = fixedArray u8 (2 ^ 60)
+
+abbrev pub firstSteps : List Line
+firstSteps =
+    refuses (all (of (big ∷ big ∷ over ∷ []) ∷ [])) 11 0
+    ∷ refuses (all (of (big ∷ over ∷ big ∷ []) ∷ [])) 14 0
+    ∷ refuses (all (of (pair resultOf most over ∷ []) ∷ [])) 14 0
+    ∷ refuses (all (of (pair resultOf (wrap optional most) over ∷ []) ∷ [])) 11 0
+    ∷ refuses (all (of (pair resultOf most u8 ∷ []) ∷ [])) 11 0
+    ∷ refuses (all (a-union (each (most ∷ []) ∷ each (over ∷ []) ∷ []) ∷ [])) 14 0
+    ∷ refuses (all (a-union (each (most ∷ []) ∷ []) ∷ [])) 11 0
+    ∷ refuses (all (of (wrap vec2 (wrap optional (fixedArray bool (2 ^ 62))) ∷ []) ∷ [])) 14 0
+    ∷ []
+
+pub first-steps-hold : answered firstSteps ≡ said firstSteps
+unfolding checkSizes turns turn onward ownSize bodySize storing store brought nameSize nameWithin nameRule contentSize contentOf contentIn slotOf typeSize leafSize wrapSize then limited primitiveBits semanticBits varintEnd zigZagEnd encodedSize fieldSize addFields addVariants unionSize tableOf rowsFrom slotRow
+first-steps-hold = refl
 
 pub others-hold : answered others ≡ said others
 unfolding checkSizes turns turn onward ownSize bodySize storing store brought nameSize nameWithin nameRule contentSize contentOf contentIn slotOf typeSize leafSize wrapSize then limited primitiveBits semanticBits varintEnd zigZagEnd encodedSize fieldSize addFields addVariants unionSize tableOf rowsFrom slotRow enumBitsAt flagsBytesAt enumBits flagsBytes ordinalBits bitLength digits highest bytesTo has

@@ -16,7 +16,7 @@ use Rattle.tree.specs.Tree.{Tree, Leaf, leaf, wrap, fixedArray, pair, generic, 
 use Rattle.tree.specs.Encoding.{Encoding, default, varint, zigZag, delta}
 use Rattle.slot.specs.Field.{Field}
 use Rattle.image.specs.Schema.{Schema}
-use Rattle.sizes.specs.Sizes.{Size, Fixed, Bounded, Open, Worked, Sized, limited, then, Resolver, leafSize, widened, Count, atMostOne, anyNumber, exactly, countOf, wrapSize, typeSize, encodedSize, fieldSize, added, addFields, mark, addVariants, unionSize}
+use Rattle.sizes.specs.Sizes.{Size, Fixed, Bounded, Open, Worked, Sized, limitedSum, then, Resolver, leafSize, widened, Count, atMostOne, anyNumber, exactly, countOf, wrapSize, typeSize, encodedSize, fieldSize, added, addFields, mark, addVariants, unionSize}
 use Rattle.sizes.specs.Names.{Content, fields, variants, bits, terminal, anything, contentOf, State, Working, inserted, orElse, contentSize, nameRule, nameWithin, enough, nameSize}
 use Rattle.sizes.specs.Check.{bodySize}
 use Rattle.sizes.specs.Lengths.{wrapParts, typeParts, encodedParts, fieldsParts, variantsParts, contentParts, terminalParts, terminalsOf, NewtypesEnd}
@@ -68,7 +68,7 @@ module _ (r r′ : Resolver) where
   unfolding addFields fieldSize fieldsParts
   fields-agree [] h total = refl
   fields-agree (f ∷ fs) h total =
-      ap₂ (λ (x : Worked) (y : Size → Worked). then x (λ s. then (limited (added total s)) y))
+      ap₂ (λ (x : Worked) (y : Size → Worked). then x (λ s. then (limitedSum (added total s)) y))
       (encoded-agree (f .encoding) (f .type) (λ j p. h j (Memᴰ·append-left (fieldsParts fs) p)))
       (fun-ext (fields-agree fs (λ j p. h j (Memᴰ·append-right (encodedParts (f .encoding) (f .type)) p))))
 

@@ -10,6 +10,8 @@ use Rattle.tree.specs.Encoding.{Encoding, default, varint, zigZag, delta}
 use Rattle.slot.specs.Field.{Field}
 pub use Rattle.sizes.specs.declared.Size.{Size}
 pub use Rattle.sizes.specs.declared.Size.the-variants.{Fixed, Bounded, Open}
+pub use Rattle.sizes.specs.declared.Operation.{Operation}
+pub use Rattle.sizes.specs.declared.Operation.the-variants.{Sum, Product}
 pub use Rattle.sizes.specs.declared.Worked.{Worked}
 pub use Rattle.sizes.specs.declared.Worked.the-variants.{Sized, Over}
 
@@ -52,20 +54,25 @@ passes (Bounded l h) = ltb limit l || ltb limit h
 passes (Open l) = ltb limit l
 
 -- a size just made: none of its numbers may pass the limit
-unfoldable pub limited : Size → Worked
-limited s = cond (passes s) Over (Sized s)
+unfoldable pub limited : Operation → Size → Worked
+limited o s = cond (passes s) (Over o) (Sized s)
 
 -- the sizes that are made by adding, and those that are made by multiplying
 abbrev pub limitedSum : Size → Worked
-limitedSum s = limited s
+limitedSum s = limited Sum s
 
 abbrev pub limitedProduct : Size → Worked
-limitedProduct s = limited s
+limitedProduct s = limited Product s
+
+-- the number of the refusal
+abbrev pub refusalOf : Operation → ℕ
+refusalOf Sum = 11
+refusalOf Product = 14
 
 -- what is made of a size that was worked out
 unfoldable pub then : Worked → (Size → Worked) → Worked
 then (Sized s) next = next s
-then Over next = Over
+then (Over o) next = Over o
 
 -- ## Types without parts
 

@@ -9,7 +9,7 @@ use Rattle.tree.specs.Tree.{Tree, Leaf, leaf, wrap, fixedArray, pair, generic, 
 use Rattle.tree.specs.Encoding.{Encoding, default, varint, zigZag, delta}
 use Rattle.slot.specs.Field.{Field}
 use Rattle.image.specs.Schema.{Schema}
-use Rattle.sizes.specs.Sizes.{Size, Fixed, Bounded, Open, Worked, Sized, smallest, largest, variable, limited, then, semanticBits, fixedOrOpen, Resolver, leafSize, optionalSize, multiplied, withoutLargest, widened, raised, Count, atMostOne, anyNumber, exactly, countOf, wrapSize, typeSize, varintEnd, zigZagEnd, encodedSize, fieldSize, added, addFields, fieldsSize, mark, addVariants, unionSize}
+use Rattle.sizes.specs.Sizes.{Size, Fixed, Bounded, Open, Sum, Product, Worked, Sized, smallest, largest, variable, limitedSum, then, semanticBits, fixedOrOpen, Resolver, leafSize, optionalSize, multiplied, withoutLargest, widened, raised, Count, atMostOne, anyNumber, exactly, countOf, wrapSize, typeSize, varintEnd, zigZagEnd, encodedSize, fieldSize, added, addFields, fieldsSize, mark, addVariants, unionSize}
 use Rattle.sizes.specs.Names.{Content, fields, variants, bits, terminal, anything, orElse, contentSize}
 use Rattle.sizes.specs.Lengths.{FixedOrAny, Length, ofQualified, ofGeneric, WrapLength, EncodedLength, FieldsLength, ContentLength, ofAnything, wrapParts, typeParts, encodedParts, fieldsParts, variantsParts, contentParts, SlotLength}
 use Rattle.sizes.specs.Steps.{sized-inj, then-made, step-made, field-added, variant-added, fields-small, first-variant}
@@ -98,12 +98,12 @@ module _ (R : Relation) (laws : Laws R) where
         (s : Size) → wrapSize c (typeSize r t) ≡ Sized s → On R (WrapLength S c t) s
     unfolding wrapSize
     sound-wrap atMostOne t parts child s q =
-        let m = step-made (typeSize r t) optionalSize s q in
+        let m = step-made Sum (typeSize r t) optionalSize s q in
         let a = laws .optional (Length S t) _ _ (child parts (m .part) (m .given)) in
         made _ _ s (m .same) (optional-is S t) (on-variable _ _ _ a)
     sound-wrap anyNumber t parts child s q = sized _ _ s q (elements-is S t) (laws .upFrom 8)
     sound-wrap (exactly k) t parts child s q =
-        let m = step-made (typeSize r t) (multiplied k) s q in
+        let m = step-made Product (typeSize r t) (multiplied k) s q in
         made _ _ s (m .same) (exactly-is S t k) (on-times k (Length S t) (m .part) (child parts (m .part) (m .given)))
 
     pub sound-type : (t : Tree) → HoldsFor R S r (typeParts t) → (s : Size) → typeSize r t ≡ Sized s → On R (Length S t) s
@@ -111,13 +111,13 @@ module _ (R : Relation) (laws : Laws R) where
     sound-type (leaf l) parts s q = sound-leaf l parts s q
     sound-type (wrap w t) parts s q = laws .same _ _ _ (wrap-is S w t) (sound-wrap (countOf w) t parts (sound-type t) s q)
     sound-type (fixedArray t k) parts s q =
-        let m = step-made (typeSize r t) (λ x. multiplied k (withoutLargest x)) s q in
+        let m = step-made Product (typeSize r t) (λ x. multiplied k (withoutLargest x)) s q in
         let a = on-dropped (Length S t) (m .part) (sound-type t parts (m .part) (m .given)) in
         made _ _ s (m .same) (fixed-array-is S t k) (on-times k (Length S t) (withoutLargest (m .part)) a)
     sound-type (pair mapOf t u) parts s q = sized _ _ s q (map-is S t u) (laws .upFrom 8)
     sound-type (pair resultOf t u) parts s q =
-        let m = then-made (typeSize r t) (λ x. then (typeSize r u) (λ y. limited (raised 1 (widened x y)))) s q in
-        let m′ = step-made (typeSize r u) (λ y. raised 1 (widened (m .part) y)) s (m .made) in
+        let m = then-made (typeSize r t) (λ x. then (typeSize r u) (λ y. limitedSum (raised 1 (widened x y)))) s q in
+        let m′ = step-made Sum (typeSize r u) (λ y. raised 1 (widened (m .part) y)) s (m .made) in
         let a = sound-type t (λ j p. parts j (Memᴰ·append-left (typeParts u) p)) (m .part) (m .given) in
         let b = sound-type u (λ j p. parts j (Memᴰ·append-right (typeParts t) p)) (m′ .part) (m′ .given) in
         let w = on-widened (Length S t) (Length S u) (m .part) (m′ .part) a b in
@@ -177,7 +177,7 @@ module _ (R : Relation) (laws : Laws R) where
     unfolding unionSize variantsParts
     sound-union [] parts s q = sized _ (Bounded 8 8) s q (no-variant-is S) (laws .exact 8)
     sound-union (v ∷ vs) parts s q =
-        let m = step-made (addVariants r (Bounded mark 0) (v ∷ vs)) (raised 8) s q in
+        let m = step-made Sum (addVariants r (Bounded mark 0) (v ∷ vs)) (raised 8) s q in
         let m′ = variant-added r (Bounded mark 0) v vs (m .part) (m .given) in
         let first = widened (Bounded mark 0) (m′ .part) in
         let small = fields-small r v (m′ .part) (m′ .given) in

@@ -8,12 +8,12 @@ use mathlib.Core.Option.{Option, none, some}
 use lib.Dec.{ltb}
 use borrow.Author.Tests.{ltb-false}
 use Rattle.slot.specs.Field.{Field}
-use Rattle.sizes.specs.Sizes.{Size, Fixed, Bounded, Open, Worked, Sized, Over, smallest, largest, variable, both, limit, passes, limited, then, widened, Resolver, fieldSize, added, addFields, fieldsSize, mark, addVariants}
+use Rattle.sizes.specs.Sizes.{Size, Fixed, Bounded, Open, Operation, Sum, Worked, Sized, Over, smallest, largest, variable, both, limit, passes, limited, then, widened, Resolver, fieldSize, added, addFields, fieldsSize, mark, addVariants}
 
 pub sized-inj : {s s′ : Size} → Sized s ≡ Sized s′ → s ≡ s′
 sized-inj e = cc
 
-pub over-not : {A : Type 0} {s : Size} → Over ≡ Sized s → A
+pub over-not : {A : Type 0} {o : Operation} {s : Size} → Over o ≡ Sized s → A
 over-not e = let z : _≡_ {A = ℕ} 0 1 = cc in absurd (omega arith)
 
 -- what was made of a size
@@ -25,7 +25,7 @@ pub record Made (w : Worked) (next : Size → Worked) (s : Size) : Type 0 where
 pub then-made : (w : Worked) (next : Size → Worked) (s : Size) → then w next ≡ Sized s → Made w next s
 unfolding then
 then-made (Sized p) next s e = record { part = p; given = refl; made = e }
-then-made Over next s e = over-not e
+then-made (Over o) next s e = over-not e
 
 or-left : (a b : Bool) → (a || b) ≡ false → a ≡ false
 or-left false b e = refl
@@ -41,11 +41,11 @@ pub record Kept (s s′ : Size) : Type 0 where
   pub same : s ≡ s′
   pub small : smallest s ≤ limit
 
-pub limited-kept : (s s′ : Size) → limited s ≡ Sized s′ → Kept s s′
+pub limited-kept : (o : Operation) (s s′ : Size) → limited o s ≡ Sized s′ → Kept s s′
 unfolding limited
-limited-kept s s′ e = go (passes s) refl e
+limited-kept o s s′ e = go (passes s) refl e
   where
-    go : (b : Bool) → passes s ≡ b → cond b Over (Sized s) ≡ Sized s′ → Kept s s′
+    go : (b : Bool) → passes s ≡ b → cond b (Over o) (Sized s) ≡ Sized s′ → Kept s s′
     go true p q = over-not q
     go false p q = record { same = sized-inj q; small = low-within s p }
 
@@ -55,10 +55,10 @@ pub record Step (w : Worked) (op : Size → Size) (s : Size) : Type 0 where
   pub given : w ≡ Sized part
   pub same : op part ≡ s
 
-pub step-made : (w : Worked) (op : Size → Size) (s : Size) → then w (λ x. limited (op x)) ≡ Sized s → Step w op s
-step-made w op s e =
-    let m = then-made w (λ x. limited (op x)) s e in
-    record { part = m .part; given = m .given; same = limited-kept (op (m .part)) s (m .made) .same }
+pub step-made : (o : Operation) (w : Worked) (op : Size → Size) (s : Size) → then w (λ x. limited o (op x)) ≡ Sized s → Step w op s
+step-made o w op s e =
+    let m = then-made w (λ x. limited o (op x)) s e in
+    record { part = m .part; given = m .given; same = limited-kept o (op (m .part)) s (m .made) .same }
 
 -- ## Adding fields and variants
 
@@ -73,9 +73,9 @@ pub field-added : (r : Resolver) (total : Size) (f : Field) (fs : List Field) (s
     addFields r total (f ∷ fs) ≡ Sized s → FieldAdded r total f fs s
 unfolding addFields
 field-added r total f fs s q =
-    let m = then-made (fieldSize r f) (λ x. then (limited (added total x)) (λ total′. addFields r total′ fs)) s q in
-    let m′ = then-made (limited (added total (m .part))) (λ total′. addFields r total′ fs) s (m .made) in
-    let k = limited-kept (added total (m .part)) (m′ .part) (m′ .given) in
+    let m = then-made (fieldSize r f) (λ x. then (limited Sum (added total x)) (λ total′. addFields r total′ fs)) s q in
+    let m′ = then-made (limited Sum (added total (m .part))) (λ total′. addFields r total′ fs) s (m .made) in
+    let k = limited-kept Sum (added total (m .part)) (m′ .part) (m′ .given) in
     record { size = m .part; worked = m .given; small = k .small; rest = rw (k .same) (m′ .made) }
 
 -- the fields of a variant, and what the other variants came to

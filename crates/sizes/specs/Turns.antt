@@ -11,7 +11,7 @@ use lib.Dec.{eqb}
 use borrow.Author.Tests.{eqb-true, eq-eqb, ne-eqb}
 use Rattle.slot.specs.Slot.{Slot}
 use Rattle.image.specs.Schema.{Schema, slotOf}
-use Rattle.sizes.specs.Sizes.{Size, Worked, Sized, Over, Resolver, fieldsSize, unionSize}
+use Rattle.sizes.specs.Sizes.{Size, Operation, Worked, Sized, Over, Resolver, fieldsSize, unionSize}
 use Rattle.sizes.specs.Names.{contentIn, contentOf, State, nothing, inserted, nameSize}
 use Rattle.sizes.specs.Check.{brought, bodySize, ownSize, store, Checked, accepted, refused, storing, turn, onward, turns, checkSizes}
 use Rattle.sizes.specs.Lengths.{SlotLength, NothingLeadsBack, Encloses, Trusted, reached}
@@ -25,7 +25,7 @@ use Rattle.sizes.specs.Rank.{from-from}
 accepted-inj : {st st′ : State} → accepted st ≡ accepted st′ → st ≡ st′
 accepted-inj e = cc
 
-refused-not : {A : Type 0} {i : ℕ} {st : State} → refused i ≡ accepted st → A
+refused-not : {A : Type 0} {o : Operation} {i : ℕ} {st : State} → refused o i ≡ accepted st → A
 refused-not e = let z : _≡_ {A = ℕ} 0 1 = cc in absurd (omega arith)
 
 -- what a turn that is not refused leaves stored
@@ -40,13 +40,13 @@ turned S st st′ i q = go (ownSize S st i) refl q
     go : (o : Option Worked) → ownSize S st i ≡ o → storing st i o ≡ accepted st′ → Turned S st i st′
     go none e q′ = subst (Turned S st i) (accepted-inj q′) (passed e)
     go (some (Sized s)) e q′ = subst (Turned S st i) (accepted-inj q′) (stored s e)
-    go (some Over) e q′ = refused-not q′
+    go (some (Over o)) e q′ = refused-not q′
 
 pub onward-made : (c : Checked) (next : State → Checked) (final : State) → onward c next ≡ accepted final →
     (st : State) × (c ≡ accepted st) × (next st ≡ accepted final)
 unfolding onward
 onward-made (accepted st) next final q = (st, refl, q)
-onward-made (refused i) next final q = refused-not q
+onward-made (refused o i) next final q = refused-not q
 
 -- what is stored there afterwards was put there, or was there before
 store-cases : (i : ℕ) (s : Size) (st : State) (j : ℕ) (s′ : Size) → store i s st j ≡ some s′ →
@@ -82,7 +82,7 @@ module _ (S : Schema) where
       go : (c : Checked) → ((st′ : State) → turns S st′ (is ++ js) ≡ onward (turns S st′ is) (λ x. turns S x js)) →
           onward c (λ st′. turns S st′ (is ++ js)) ≡ onward (onward c (λ st′. turns S st′ is)) (λ st′. turns S st′ js)
       go (accepted st′) later = later st′
-      go (refused k) later = refl
+      go (refused o k) later = refl
 
   -- the first turn, and then the others
   first-turn : (i : ℕ) (is : List ℕ) (st final : State) → turns S st (i ∷ is) ≡ accepted final →

@@ -7,8 +7,14 @@ pub enum Size {
     Open(u64),
 }
 
-// The answer of working a type out: its size, or a number passed the limit.
+// What makes a size of others: adding them up, or taking one so many times.
+pub enum Operation {
+    Sum,
+    Product,
+}
+
+// The answer of working a type out: its size, or what made the first number that passed the limit.
 pub enum Worked {
     Sized(Size),
-    Over,
+    Over(Operation),
 }

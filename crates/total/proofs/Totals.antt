@@ -8,6 +8,7 @@ use lib.Dec.{ltb}
 use borrow.Author.Tests.{lt-ltb, le-ltb}
 use Rattle.sizes.specs.declared.Size.{Size}
 use Rattle.sizes.specs.declared.Size.the-variants.{Fixed, Bounded, Open}
+use Rattle.sizes.specs.declared.Operation.the-variants.{Sum}
 use Rattle.sizes.specs.declared.Worked.{Worked}
 use Rattle.sizes.specs.declared.Worked.the-variants.{Sized, Over}
 use Rattle.sizes.specs.Sizes.{smallest, largest, isFixed, variable, both, limit, passes, limited, limitedSum, then, marked, added}
@@ -15,7 +16,7 @@ use Rattle.sizes.specs.Steps.{then-made, limited-kept}
 use Rattle.measures.specs.Cut.{cutSum, highOf}
 use Rattle.measures.specs.declared.Bound.{Bound}
 use Rattle.measures.proofs.Cutting.{cut-sums}
-use Rattle.total.specs.Totals.{sizeOf, boundOf, totalOf, beyond, Running, after, withField}
+use Rattle.total.specs.Totals.{sizeOf, boundOf, totalOf, beyond, Running, after, withField, stoppedBy}
 use Rattle.total.specs.declared.Total.{Total}
 use Rattle.total.specs.declared.Raised.{Raised}
 
@@ -56,16 +57,16 @@ module _ (l : ℕ) (h : Option ℕ) where
   sum-ends false f (Open a) e = no e
 
   -- and passes the limit where the span from its start to its end does
-  limited-marked : (b : Bool) → (b ≡ true → h ≡ some l) → limited (marked b l h) ≡ then (limited (variable l h)) (λ s. Sized (marked b l h))
+  limited-marked : (b : Bool) → (b ≡ true → h ≡ some l) → limitedSum (marked b l h) ≡ then (limitedSum (variable l h)) (λ s. Sized (marked b l h))
   unfolding limited then
   limited-marked true f = rw (f refl) (go (ltb limit l))
     where
-      go : (a : Bool) → cond a Over (Sized (Fixed l)) ≡ then (cond (a || a) Over (Sized (Bounded l l))) (λ s. Sized (Fixed l))
+      go : (a : Bool) → cond a (Over Sum) (Sized (Fixed l)) ≡ then (cond (a || a) (Over Sum) (Sized (Bounded l l))) (λ s. Sized (Fixed l))
       go true = refl
       go false = refl
   limited-marked false f = go (passes (variable l h))
     where
-      go : (a : Bool) → cond a Over (Sized (variable l h)) ≡ then (cond a Over (Sized (variable l h))) (λ s. Sized (variable l h))
+      go : (a : Bool) → cond a (Over Sum) (Sized (variable l h)) ≡ then (cond a (Over Sum) (Sized (variable l h))) (λ s. Sized (variable l h))
       go true = refl
       go false = refl
 
@@ -78,19 +79,19 @@ module _ (l : ℕ) (h : Option ℕ) where
       go none = refl
 
   -- the tests of a span's ends
-  low-over : limit < l → limited (variable l h) ≡ Over
+  low-over : limit < l → limitedSum (variable l h) ≡ Over Sum
   unfolding limited
   low-over p = go h (lt-ltb limit l p)
     where
-      go : (k : Option ℕ) → ltb limit l ≡ true → limited (variable l k) ≡ Over
+      go : (k : Option ℕ) → ltb limit l ≡ true → limitedSum (variable l k) ≡ Over Sum
       go (some k) e = rw e
       go none e = rw e
 
-  high-tested : l ≤ limit → limited (variable l h) ≡ cond (beyond h) Over (Sized (variable l h))
+  high-tested : l ≤ limit → limitedSum (variable l h) ≡ cond (beyond h) (Over Sum) (Sized (variable l h))
   unfolding limited
   high-tested p = go h (le-ltb limit l p)
     where
-      go : (k : Option ℕ) → ltb limit l ≡ false → limited (variable l k) ≡ cond (beyond k) Over (Sized (variable l k))
+      go : (k : Option ℕ) → ltb limit l ≡ false → limitedSum (variable l k) ≡ cond (beyond k) (Over Sum) (Sized (variable l k))
       go (some k) e = rw e
       go none e = rw e
 
@@ -126,9 +127,9 @@ module _ (t : Total) (run : Running t) (z : Size) where
   ends : not varies ≡ true → high ≡ some low
   ends = sum-ends (t .smallest) (highOf (t .largest)) (t .variable) (run .ends) z
 
-  whole : limitedSum (added (sizeOf t) z) ≡ then (limited (variable low high)) (λ s. Sized (marked (not varies) low high))
+  whole : limitedSum (added (sizeOf t) z) ≡ then (limitedSum (variable low high)) (λ s. Sized (marked (not varies) low high))
   unfolding sizeOf
-  whole = ap limited (sum-is (t .smallest) (highOf (t .largest)) (t .variable) (run .ends) z) ∙ limited-marked low high (not varies) ends
+  whole = ap limitedSum (sum-is (t .smallest) (highOf (t .largest)) (t .variable) (run .ends) z) ∙ limited-marked low high (not varies) ends
 
   pub passed-low : {a : ℕ} → a ≡ smallest z → limit < t .smallest + a → _≡_ {A = Raised} record { total = t; ok = false } (after t (limitedSum (added (sizeOf t) z)))
   unfolding after then
@@ -137,13 +138,13 @@ module _ (t : Total) (run : Running t) (z : Size) where
   -- the code's largest is cut
   module _ (l : ℕ) (b h : Bound) {a : ℕ} (from : a ≡ smallest z) (p : l ≡ t .smallest + a) (small : l ≤ limit)
       (to : highOf b ≡ largest z) (q : highOf h ≡ both cutSum (highOf (t .largest)) (highOf b)) where
-    span : limited (variable l (highOf h)) ≡ limited (variable low high)
+    span : limitedSum (variable l (highOf h)) ≡ limitedSum (variable low high)
     span =
         let e : l ≡ min low (2 ^ 63) = omega arith in
-        ap limited (ap₂ variable e (q ∙ ap (both cutSum (highOf (t .largest))) to)) ∙ cut-sums low (highOf (t .largest)) (largest z)
+        ap limitedSum (ap₂ variable e (q ∙ ap (both cutSum (highOf (t .largest))) to)) ∙ cut-sums Sum low (highOf (t .largest)) (largest z)
 
-    tested : (b : Bool) → beyond (highOf h) ≡ b → limited (variable low high) ≡ cond b Over (Sized (variable l (highOf h)))
-    tested b e = sym span ∙ high-tested l (highOf h) small ∙ ap (λ (x : Bool). cond x Over (Sized (variable l (highOf h)))) e
+    tested : (b : Bool) → beyond (highOf h) ≡ b → limitedSum (variable low high) ≡ cond b (Over Sum) (Sized (variable l (highOf h)))
+    tested b e = sym span ∙ high-tested l (highOf h) small ∙ ap (λ (x : Bool). cond x (Over Sum) (Sized (variable l (highOf h)))) e
 
     pub passed-high : beyond (highOf h) ≡ true → _≡_ {A = Raised} record { total = t; ok = false } (after t (limitedSum (added (sizeOf t) z)))
     unfolding after then
@@ -154,7 +155,7 @@ module _ (t : Total) (run : Running t) (z : Size) where
     unfolding after then
     risen {v} e g =
         let f = tested false e in
-        let k = sym (limited-kept _ _ f .same) in
+        let k = sym (limited-kept Sum _ _ f .same) in
         let x = low-is l (highOf h) low high k in
         let y = sym (bound-back h) ∙ ap boundOf (high-is l (highOf h) low high k) in
         let m = total-marked low high varies ends in
@@ -178,18 +179,22 @@ module _ (s : Size) {t : Total} (e : t ≡ totalOf s) (field : Worked) {r : Rais
     where
       go : (w : Worked) → r ≡ after t w → (y : Size) × (w ≡ Sized y) × (r .total ≡ totalOf y)
       go (Sized y) f = (y, refl, ap (λ (x : Raised). x .total) f)
-      go Over f = no (sym (ap (λ (x : Raised). x .ok) f) ∙ h)
+      go (Over o) f = no (sym (ap (λ (x : Raised). x .ok) f) ∙ h)
 
-  pub stopped : r .ok ≡ false → sum ≡ Over
-  unfolding after
-  stopped h = go sum steps
+  pub stopped : r .ok ≡ false → sum ≡ Over (stoppedBy field)
+  unfolding after then limited
+  stopped h = go field steps
     where
-      go : (w : Worked) → r ≡ after t w → w ≡ Over
-      go (Sized y) f = no (sym h ∙ ap (λ (x : Raised). x .ok) f)
-      go Over f = refl
+      limit-passed : (z : Size) (b : Bool) → r ≡ after t (cond b (Over Sum) (Sized z)) → cond b (Over Sum) (Sized z) ≡ Over Sum
+      limit-passed z true f = refl
+      limit-passed z false f = no (sym h ∙ ap (λ (x : Raised). x .ok) f)
+
+      go : (w : Worked) → r ≡ after t (then w (λ z. limitedSum (added s z))) → then w (λ z. limitedSum (added s z)) ≡ Over (stoppedBy w)
+      go (Sized z) f = limit-passed (added s z) (passes (added s z)) f
+      go (Over o) f = refl
 
   pub sum-small : (y : Size) → sum ≡ Sized y → smallest y ≤ limit
   sum-small y e =
       let m = then-made field (λ z. limitedSum (added s z)) y e in
-      let k = limited-kept (added s (m .part)) y (m .made) in
+      let k = limited-kept Sum (added s (m .part)) y (m .made) in
       let g = ap smallest (k .same) in omega (arith, k .small, g)

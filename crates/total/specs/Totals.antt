@@ -5,6 +5,8 @@ use mathlib.Core.Bool.{Bool, true, false, not}
 use mathlib.Core.Option.{Option, none, some}
 use lib.Dec.{ltb}
 use Rattle.sizes.specs.declared.Size.{Size}
+use Rattle.sizes.specs.declared.Operation.{Operation}
+use Rattle.sizes.specs.declared.Operation.the-variants.{Sum}
 use Rattle.sizes.specs.declared.Worked.{Worked}
 use Rattle.sizes.specs.declared.Worked.the-variants.{Sized, Over}
 use Rattle.sizes.specs.Sizes.{smallest, largest, isFixed, limit, marked, then, limitedSum, added}
@@ -37,7 +39,12 @@ beyond none = false
 -- a total that comes to a sum, or is as it was
 unfoldable pub after : Total → (sum : Worked) → Raised
 after t (Sized s) = record { total = totalOf s; ok = true }
-after t Over = record { total = t; ok = false }
+after t (Over o) = record { total = t; ok = false }
+
+-- what passed the limit, where a field could not be added
+abbrev pub stoppedBy : Worked → Operation
+stoppedBy (Sized s) = Sum
+stoppedBy (Over o) = o
 
 -- with one field more, by the definition's sum
 abbrev pub withField : Total → (field : Worked) → Raised

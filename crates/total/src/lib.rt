@@ -1,12 +1,13 @@
 // The running total of a message's fields, or of a variant's: added to by value below, lent above.
 use measures::Bound;
+use sizes::Operation;
 use sizes::Size;
 use sizes::Worked;
 ghost use mathlib.Core.Path.{_≡_};
 ghost use mathlib.Core.Bool.{_||_, not};
 ghost use Rattle.sizes.specs.Sizes.{isFixed, limitedSum, added};
 ghost use Rattle.measures.specs.Cut.{highOf};
-ghost use Rattle.total.specs.Totals.{sizeOf, totalOf, beyond, Running, after, withField};
+ghost use Rattle.total.specs.Totals.{sizeOf, totalOf, beyond, Running, after, withField, stoppedBy};
 
 // Smallest, and largest if every field has one, of the fields so far; the mark is set once a field is not Fixed.
 pub struct Total {
@@ -97,7 +98,17 @@ fn add_worked(total: Total, field: Worked) -> Raised
 {
     match field {
         Worked::Sized(size) => add(total, size),
-        Worked::Over => Raised { total, ok: false },
+        Worked::Over(_) => Raised { total, ok: false },
+    }
+}
+
+// What passed the limit where a field could not be added: the field's own refusal, or else the sum.
+pub fn stopped_by(field: Worked) -> Operation
+    ensures { λ r. ⌜ r ≡ stoppedBy field ⌝ }
+{
+    match field {
+        Worked::Sized(_) => Operation::Sum,
+        Worked::Over(by) => by,
     }
 }
 

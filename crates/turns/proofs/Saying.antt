@@ -10,6 +10,8 @@ use Rattle.image.specs.Schema.{Schema}
 use Rattle.image.specs.declared.Frame.{Frame}
 use Rattle.reader.specs.Reading.{readingOf, schemaOf}
 use Rattle.reader.specs.declared.Reading.{Reading}
+use Rattle.sizes.specs.declared.Operation.{Operation}
+use Rattle.sizes.specs.Sizes.{refusalOf}
 use Rattle.sizes.specs.Check.{Checked, checkSizes, tableOf}
 use Rattle.sizes.specs.Check as check
 use Rattle.sizes.specs.Demand.{Demand3}
@@ -36,12 +38,13 @@ module _ (s before after : List ℕ) where
       }
 
   module _ (h : 3 * length (schemaOf s .slots) ≤ length before) where
-    -- refusal 11
-    pub passed-limit : (i n : ℕ) → n ≡ length before → checkSizes (schemaOf s) ≡ check.refused i → after ≡ fitted n [] → SizesSaid s before after (Sizing.Refused 11 i)
+    -- refusals 11 and 14
+    pub passed-limit : (o : Operation) (i m n : ℕ) → m ≡ refusalOf o → n ≡ length before → checkSizes (schemaOf s) ≡ check.refused o i → after ≡ fitted n []
+        → SizesSaid s before after (Sizing.Refused m i)
     unfolding sizingIn sizeRowsIn
-    passed-limit i n l c e =
+    passed-limit o i m n x l c e =
         record {
-          answer = λ f. simp (le-ltb _ _ h) (sym (ap verdict c));
+          answer = λ f. ap (λ (k : ℕ). Sizing.Refused k i) x ∙ simp (le-ltb _ _ h) (sym (ap verdict c));
           table = λ f. e ∙ ap (λ (k : ℕ). fitted k []) l ∙ simp (le-ltb _ _ h) (sym (ap (λ (x : Checked). fitted (length before) (rowsIn (schemaOf s) x)) c));
           demand = λ q. absurd (not-accepted q);
         }

@@ -2,7 +2,6 @@
 use Prim.Native.Nat.{ℕ, suc, _+_, _-_, _*_, _^_, _≤_, _<_}
 use mathlib.Core.Path.{_≡_, refl, sym, ap, subst, _∙_}
 use mathlib.Core.List.{List, _∷_}
-use mathlib.Core.Bool.{Bool, true, false}
 use mathlib.Core.Option.{none, some}
 use native.Mathlib.Omega.{arith}
 use lib.ListN.{length, getD, List·getD-eq-default}
@@ -12,6 +11,7 @@ use Rattle.number.proofs.Reading.{not-done, given, read-number, front}
 use Rattle.slot.specs.Slot.{Slot, empty, message, enum, flags, union, newtype, config, alias, trait, impl}
 use Rattle.image.specs.Schema.{Schema, slotOf}
 use Rattle.sizes.specs.declared.Size.{Size}
+use Rattle.sizes.specs.declared.Operation.{Operation}
 use Rattle.sizes.specs.declared.Worked.{Worked}
 use Rattle.sizes.specs.declared.Worked.the-variants.{Sized, Over}
 use Rattle.sizes.specs.Sizes.{Resolver}
@@ -24,6 +24,7 @@ use Rattle.wiresize.specs.Rows.{RowsHold}
 use Rattle.wiresize.specs.Asked.{turnOf}
 use Rattle.turns.specs.Sizing.{TurnTaken, Through}
 use Rattle.wiresize.specs.declared.Turned.{Turned}
+use Rattle.turns.specs.declared.Taken.{Taken}
 use Rattle.turns.specs.declared.Passed.{Passed}
 
 module _ (S : Schema) where
@@ -59,23 +60,23 @@ module _ (S : Schema) where
   unfolding turn storing
   turn-sized st i z e = rw e
 
-  turn-over : (st : State) (i : ℕ) → ownSize S st i ≡ some Over → turn S st i ≡ check.refused i
+  turn-over : (st : State) (i : ℕ) (o : Operation) → ownSize S st i ≡ some (Over o) → turn S st i ≡ check.refused o i
   unfolding turn storing
-  turn-over st i e = rw e
+  turn-over st i o e = rw e
 
   -- the ways through a turn
   module _ (st : State) (i : ℕ) (l rows : List ℕ) (room : 3 * length (S .slots) ≤ length l) (e : rows ≡ sets l 0 (tableOf S st)) where
-    pub beyond : length (S .slots) ≤ i → TurnTaken S st i l rows true
+    pub beyond : length (S .slots) ≤ i → TurnTaken S st i l rows Taken.On
     beyond h = (st, turn-none st i (own-past st i h), e)
 
-    pub other : (r : Turned) → turnOf r ≡ ownSize S st i → r ≡ Turned.Other → TurnTaken S st i l rows true
+    pub other : (r : Turned) → turnOf r ≡ ownSize S st i → r ≡ Turned.Other → TurnTaken S st i l rows Taken.On
     other r o q = (st, turn-none st i (sym o ∙ ap turnOf q), e)
 
-    pub over : (r : Turned) → turnOf r ≡ ownSize S st i → r ≡ Turned.Over → TurnTaken S st i l rows false
-    over r o q = turn-over st i (sym o ∙ ap turnOf q)
+    pub over : (r : Turned) (o : Operation) → turnOf r ≡ ownSize S st i → r ≡ Turned.Over o → TurnTaken S st i l rows (Taken.Over o)
+    over r o own q = turn-over st i o (sym own ∙ ap turnOf q)
 
     pub sized : (r : Turned) (z : Size) → turnOf r ≡ ownSize S st i → r ≡ Turned.Sized z → (row after : List ℕ) → row ≡ sizeRow (some z)
-        → after ≡ sets rows (3 * i) row → TurnTaken S st i l after true
+        → after ≡ sets rows (3 * i) row → TurnTaken S st i l after Taken.On
     sized r z o q row after p f =
         let w = sym o ∙ ap turnOf q in (
           store i z st,
@@ -135,17 +136,17 @@ module _ (s : List ℕ) (S : Schema) (l₀ : List ℕ) where
       stop-turn r q e x l k f = absurd (not-done e (first-of l (g .left-over l k f) .reads))
 
       module _ (v n : ℕ) (e : below (2 ^ 32) s p ≡ done v n) (after : List ℕ) where
-        pub over-turn : (b : Bool) → b ≡ false → ((l : List ℕ) (st : State) → 3 * length (S .slots) ≤ length l → rows ≡ sets l 0 (tableOf S st) → TurnTaken S st v l after b)
-            → (l : List ℕ) → 3 * length (S .slots) ≤ length l → l₀ ≡ sets l 0 (tableOf S (brought S)) → Through S l after (Passed.Over v)
+        pub over-turn : (b : Taken) (o : Operation) → b ≡ Taken.Over o → ((l : List ℕ) (st : State) → 3 * length (S .slots) ≤ length l → rows ≡ sets l 0 (tableOf S st) → TurnTaken S st v l after b)
+            → (l : List ℕ) → 3 * length (S .slots) ≤ length l → l₀ ≡ sets l 0 (tableOf S (brought S)) → Through S l after (Passed.Over o v)
         unfolding turns onward
-        over-turn b q t l k f =
+        over-turn b o q t l k f =
             let w = g .left-over l k f in
-            let o = first-of l w in
-            let y = given (sym (o .reads) ∙ e) .0 in
-            let u : turn S (w .state) v ≡ check.refused v = subst (λ (x : Bool). TurnTaken S (w .state) v l after x) q (t l (w .state) k (w .held)) in
-            w .same ∙ ap (turns S (w .state)) (o .whole ∙ ap (λ (x : ℕ). x ∷ o .others) y) ∙ rw u
+            let z = first-of l w in
+            let y = given (sym (z .reads) ∙ e) .0 in
+            let u : turn S (w .state) v ≡ check.refused o v = subst (λ (x : Taken). TurnTaken S (w .state) v l after x) q (t l (w .state) k (w .held)) in
+            w .same ∙ ap (turns S (w .state)) (z .whole ∙ ap (λ (x : ℕ). x ∷ z .others) y) ∙ rw u
 
-        pub next-turn : (b : Bool) → b ≡ true → length after ≡ length rows
+        pub next-turn : (b : Taken) → b ≡ Taken.On → length after ≡ length rows
             → ((l : List ℕ) (st : State) → 3 * length (S .slots) ≤ length l → rows ≡ sets l 0 (tableOf S st) → TurnTaken S st v l after b) → Going after n (left - 1)
         next-turn b q m t =
             record {
@@ -157,7 +158,7 @@ module _ (s : List ℕ) (S : Schema) (l₀ : List ℕ) where
             onto l k w =
                 let o = first-of l w in
                 let y = given (sym (o .reads) ∙ e) in
-                let u : TurnTaken S (w .state) v l after true = subst (λ (x : Bool). TurnTaken S (w .state) v l after x) q (t l (w .state) k (w .held)) in
+                let u : TurnTaken S (w .state) v l after Taken.On = subst (λ (x : Taken). TurnTaken S (w .state) v l after x) q (t l (w .state) k (w .held)) in
                 record {
                   state = u .0;
                   places = o .others;

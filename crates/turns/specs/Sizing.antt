@@ -1,8 +1,8 @@
--- From an image and the places of a size table to the answer and the table. Refusals 10 and 11.
+-- From an image and the places of a size table to the answer and the table. Refusals 10, 11 and 14.
 use Prim.Native.Nat.{ℕ, _*_}
 use mathlib.Core.Path.{_≡_}
 use mathlib.Core.List.{List, []}
-use mathlib.Core.Bool.{Bool, true, false, cond}
+use mathlib.Core.Bool.{cond}
 use lib.ListN.{length}
 use lib.Seq.{sets}
 use lib.Dec.{ltb}
@@ -10,21 +10,23 @@ use Rattle.image.specs.Schema.{Schema}
 use Rattle.image.specs.declared.Frame.{Frame}
 use Rattle.reader.specs.Reading.{readingOf, schemaOf}
 use Rattle.reader.specs.declared.Reading.{Reading}
+use Rattle.sizes.specs.Sizes.{refusalOf}
 use Rattle.sizes.specs.Names.{State}
 use Rattle.sizes.specs.Check.{Checked, accepted, refused, turn, checkSizes, tableOf}
 use Rattle.sizes.specs.Demand.{Demand3}
 use Rattle.table.specs.Fitted.{fitted}
 use Rattle.turns.specs.declared.Sizing.{Sizing}
+use Rattle.turns.specs.declared.Taken.{Taken}
 use Rattle.turns.specs.declared.Passed.{Passed}
 
--- refusal 11 at the declared slot being worked
+-- refusal 11 or 14 at the declared slot being worked
 abbrev pub verdict : Checked → Sizing
 verdict (accepted st) = Sizing.Accepted
-verdict (refused i) = Sizing.Refused 11 i
+verdict (refused o i) = Sizing.Refused (refusalOf o) i
 
 abbrev pub rowsIn : Schema → Checked → List ℕ
 rowsIn S (accepted st) = tableOf S st
-rowsIn S (refused i) = []
+rowsIn S (refused o i) = []
 
 -- an image that was read: refusal 10 where the table has under 3 places a slot, before any size is worked out
 unfoldable pub sizingIn : (places : ℕ) → Schema → Reading → Sizing
@@ -35,7 +37,7 @@ unfoldable pub sizeRowsIn : (places : ℕ) → Schema → Reading → List ℕ
 sizeRowsIn places S (Reading.Refused r p) = []
 sizeRowsIn places S (Reading.Accepted f) = cond (ltb places (3 * length (S .slots))) [] (rowsIn S (checkSizes S))
 
--- the answer, refusals 1 to 11
+-- the answer, refusals 1 to 11 and 14
 unfoldable pub sizingOf : (places : ℕ) → List ℕ → Sizing
 sizingOf places s = sizingIn places (schemaOf s) (readingOf s)
 
@@ -56,11 +58,11 @@ pub record SizesSaid (s before after : List ℕ) (r : Sizing) : Type 0 where
   pub demand : r ≡ Sizing.Accepted → Demand3 (schemaOf s) after
 
 -- a place of the declaration list was passed: the rows hold the sizes stored then, or a number passed the limit
-abbrev pub TurnTaken : Schema → State → (slot : ℕ) → (l after : List ℕ) → Bool → Type 0
-TurnTaken S st i l after true = (st′ : State) × (turn S st i ≡ accepted st′) × (after ≡ sets l 0 (tableOf S st′))
-TurnTaken S st i l after false = turn S st i ≡ refused i
+abbrev pub TurnTaken : Schema → State → (slot : ℕ) → (l after : List ℕ) → Taken → Type 0
+TurnTaken S st i l after Taken.On = (st′ : State) × (turn S st i ≡ accepted st′) × (after ≡ sets l 0 (tableOf S st′))
+TurnTaken S st i l after (Taken.Over o) = turn S st i ≡ refused o i
 
 -- all places were passed
 abbrev pub Through : Schema → (l after : List ℕ) → Passed → Type 0
 Through S l after Passed.All = (st : State) × (checkSizes S ≡ accepted st) × (after ≡ sets l 0 (tableOf S st))
-Through S l after (Passed.Over i) = checkSizes S ≡ refused i
+Through S l after (Passed.Over o i) = checkSizes S ≡ refused o i

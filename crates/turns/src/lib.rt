@@ -2,6 +2,7 @@
 use image::Frame;
 use number::Ranged;
 use reader::Reading;
+use sizes::Operation;
 use wiresize::Turned;
 ghost use mathlib.Core.Path.{_≡_};
 ghost use mathlib.Core.List.{List};
@@ -10,38 +11,55 @@ ghost use lib.ListN.{length};
 ghost use lib.Seq.{sets};
 ghost use Rattle.reader.specs.Reading.{schemaOf};
 ghost use Rattle.reader.specs.Promise.{Promise};
+ghost use Rattle.sizes.specs.Sizes.{refusalOf};
 ghost use Rattle.sizes.specs.Names.{State};
 ghost use Rattle.sizes.specs.Check.{brought, tableOf};
 ghost use Rattle.turns.specs.Sizing.{Answered, SizesSaid, TurnTaken, Through};
 
-// Accepted, or a refusal from 1 to 11 with its place.
+// Accepted, or a refusal, from 1 to 11 or 14, with its place.
 pub enum Sizing {
     Accepted,
     Refused(u8, u64),
 }
 
-// Whether all places of the declaration list were passed, or the slot at which a number passed the limit.
-pub enum Passed {
-    All,
-    Over(u64),
+// Whether a place of the declaration list was passed, or what made the first number that passed the limit.
+pub enum Taken {
+    On,
+    Over(Operation),
 }
 
-// One place of the declaration list. True unless a number passed the limit.
-fn take_turn(image: &[u8], starts: &[usize], frame: Frame, rows: &mut [u64], slot: u64) -> bool
+// Whether all places were passed, or what made the first number that passed the limit, and at which slot.
+pub enum Passed {
+    All,
+    Over(Operation, u64),
+}
+
+// The number of a refusal at the limit.
+fn refusal_of(by: Operation) -> u8
+    ensures { λ r. ⌜ r ≡ refusalOf by ⌝ }
+{
+    match by {
+        Operation::Sum => 11,
+        Operation::Product => 14,
+    }
+}
+
+// One place of the declaration list.
+fn take_turn(image: &[u8], starts: &[usize], frame: Frame, rows: &mut [u64], slot: u64) -> Taken
     requires { ⌜ Promise (now image) (now starts) frame × (3 * frame .slots ≤ length (now rows)) ⌝ }
     ensures { λ r. ⌜ ((l : List ℕ) (st : State) → 3 * length (schemaOf (now (image .entry)) .slots) ≤ length l → now (rows .entry) ≡ sets l 0 (tableOf (schemaOf (now (image .entry))) st) → TurnTaken (schemaOf (now (image .entry))) st slot l (now (rows .exit)) r) ⌝ }
 {
     if frame.slots <= slot {
-        return true;
+        return Taken::On;
     }
     let i = slot as usize;
     match wiresize::own_size(image, starts, frame, rows, i) {
         Turned::Sized(size) => {
             rows::put_row(rows, i, rows::size_row(size));
-            true
+            Taken::On
         }
-        Turned::Over => false,
-        Turned::Other => true,
+        Turned::Over(by) => Taken::Over(by),
+        Turned::Other => Taken::On,
     }
 }
 
@@ -54,14 +72,15 @@ fn take_turns(image: &[u8], starts: &[usize], frame: Frame, rows: &mut [u64]) ->
     let mut p = frame.declared;
     while 0 < left {
         match number::read_below(image, p, 4294967296) {
-            Ranged::Value(slot, after) => {
-                if take_turn(image, starts, frame, rows, slot) {
+            Ranged::Value(slot, after) => match take_turn(image, starts, frame, rows, slot) {
+                Taken::On => {
                     p = after;
                     left -= 1;
-                } else {
-                    return Passed::Over(slot);
                 }
-            }
+                Taken::Over(by) => {
+                    return Passed::Over(by, slot);
+                }
+            },
             Ranged::Refused(_, q) => {
                 return Passed::All;
             }
@@ -70,7 +89,7 @@ fn take_turns(image: &[u8], starts: &[usize], frame: Frame, rows: &mut [u64]) ->
     Passed::All
 }
 
-// An accepted image: refusals 10 and 11, or the table. The rows are worked on where the caller finds them.
+// An accepted image: refusals 10, 11 and 14, or the table. The rows are worked on where the caller finds them.
 pub fn size_slots(image: &[u8], starts: &[usize], frame: Frame, sizes: &mut [u64]) -> Sizing
     requires { ⌜ Promise (now image) (now starts) frame ⌝ }
     ensures { λ r. ⌜ SizesSaid (now (image .entry)) (now (sizes .entry)) (now (sizes .exit)) r ⌝ }
@@ -82,9 +101,9 @@ pub fn size_slots(image: &[u8], starts: &[usize], frame: Frame, sizes: &mut [u64
     rows::fill_rows(image, starts, frame, sizes);
     match take_turns(image, starts, frame, sizes) {
         Passed::All => Sizing::Accepted,
-        Passed::Over(slot) => {
+        Passed::Over(by, slot) => {
             table::clear(sizes);
-            Sizing::Refused(11, slot)
+            Sizing::Refused(refusal_of(by), slot)
         }
     }
 }

@@ -101,7 +101,7 @@ module _ (s sizes findings : List ℕ) where
 
 verdict-rows : (S : Schema) (c : Checked) (n i : ℕ) → verdict c ≡ Sizing.Refused n i → rowsIn S c ≡ []
 verdict-rows S (check.accepted st) n i e = let z : _≡_ {A = ℕ} 0 1 = cc in absurd (omega arith)
-verdict-rows S (check.refused j) n i e = refl
+verdict-rows S (check.refused o j) n i e = refl
 
 -- on a refusal there are no rows
 no-rows : (places : ℕ) (S : Schema) (x : Reading) (n i : ℕ) → sizingIn places S x ≡ Sizing.Refused n i → sizeRowsIn places S x ≡ []
@@ -116,7 +116,7 @@ no-rows places S (Reading.Accepted f) n i e = go (ltb places (3 * length (S .slo
 not-accepted : {n p m : ℕ} → Verdict.Refused n p ≡ Verdict.Accepted m → ⊥
 not-accepted e = let z : _≡_ {A = ℕ} 0 1 = cc in omega arith
 
--- a refusal from 1 to 11
+-- a refusal that comes before findings
 pub refused-said : (s sizes findings : List ℕ) (z : Sizing) (n i : ℕ) (after b : List ℕ) → sizing.Answered s sizes after z → z ≡ Sizing.Refused n i
     → b ≡ fitted (length findings) [] → Answered s sizes after findings b (Verdict.Refused n i)
 unfolding verdictOf verdictIn sizeTable findingTable sizingOf sizesOf

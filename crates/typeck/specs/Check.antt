@@ -32,7 +32,7 @@ valueOf (Verdict.Refused r p) = p
 unfoldable pub judged : (findingPlaces : ℕ) → Schema → Verdict
 judged q S = cond (ltb q (6 * length (findingsOf S))) (Verdict.Refused 12 0) (Verdict.Accepted (length (findingsOf S)))
 
--- refusals 1 to 11 come before
+-- refusals 1 to 11 and 14 come before
 unfoldable pub verdictIn : (findingPlaces : ℕ) → Schema → Sizing → Verdict
 verdictIn q S (Sizing.Refused r p) = Verdict.Refused r p
 verdictIn q S Sizing.Accepted = judged q S

@@ -7,6 +7,7 @@ use Rattle.number.specs.Answers.{next}
 use Rattle.number.specs.declared.Next.{Next}
 use Rattle.number.proofs.Reading.{given}
 use Rattle.sizes.specs.declared.Size.{Size}
+use Rattle.sizes.specs.declared.Operation.{Operation}
 use Rattle.sizes.specs.declared.Worked.{Worked}
 use Rattle.sizes.specs.declared.Worked.the-variants.{Sized, Over}
 use Rattle.sizes.specs.Sizes.{then, limitedProduct, multiplied, withoutLargest}
@@ -24,7 +25,7 @@ module _ {A : Type 0} (m : Outcome A) {x : Next} {a : A} {e : ℕ} (step : x ≡
 pub not-refused : {A : Type 0} {m : Outcome A} {a : A} {e r p : ℕ} → m ≡ refused r p → m ≡ done a e → ⊥
 not-refused f d = let z : _≡_ {A = ℕ} 0 1 = cc in omega arith
 
-pub not-over : {w : Worked} {z : Size} → w ≡ Over → w ≡ Sized z → ⊥
+pub not-over : {w : Worked} {o : Operation} {z : Size} → w ≡ Over o → w ≡ Sized z → ⊥
 not-over f d = let z : _≡_ {A = ℕ} 0 1 = cc in omega arith
 
 pub at-count : {m : Outcome ℕ} {v n count end : ℕ} → m ≡ done v n → m ≡ done count end → n ≡ end

@@ -15,7 +15,7 @@ use Rattle.sizes.specs.declared.Worked.the-variants.{Sized, Over}
 use Rattle.sizes.specs.Sizes.{smallest, limit, then, limitedSum, Resolver, fieldSize, added, addFields, fieldsSize}
 use Rattle.sizes.specs.Steps.{then-made}
 use Rattle.sizes.specs.Names.{State}
-use Rattle.total.specs.Totals.{sizeOf, totalOf, Running, withField}
+use Rattle.total.specs.Totals.{sizeOf, totalOf, Running, withField, stoppedBy}
 use Rattle.total.specs.declared.Total.{Total}
 use Rattle.total.specs.declared.Raised.{Raised}
 use Rattle.total.proofs.Totals.{size-back, running, stepped, stopped, sum-small}
@@ -51,7 +51,7 @@ total-on R total x xs {w} e f =
   where
     go : (v : Worked) → then v (λ z. then (limitedSum (added total z)) (λ sum. addFields R sum xs)) ≡ then (then v (λ z. limitedSum (added total z))) (λ sum. addFields R sum xs)
     go (Sized z) = refl
-    go Over = refl
+    go (Over o) = refl
 
 total-done : (R : Resolver) (total : Size) {xs : List Field} → [] ≡ xs → addFields R total xs ≡ Sized total
 unfolding addFields
@@ -114,7 +114,7 @@ module _ (s : List ℕ) (names : ℕ) (rows : List ℕ) (w : List Bool) (fieldCo
             }
 
         pub field-over : r′ .ok ≡ false → (fs : List Field) (e : ℕ) → Whole fs e → (st : State) → RowsHold (schemaOf s) st rows
-            → Over ≡ fieldsSize (resolver s st w) fs
+            → Over (stoppedBy (r .worked)) ≡ fieldsSize (resolver s st w) fs
         unfolding then
         field-over o fs e q st H = sym (onward (stopped (l .sum) (l .stands) (r .worked) adds o) st H) ∙ l .totals fs e q st H
 

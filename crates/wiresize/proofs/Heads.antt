@@ -11,22 +11,23 @@ use Rattle.tree.specs.declared.Sort.the-variants.{Resolved}
 use Rattle.tree.specs.declared.Head.{Head}
 use Rattle.tree.proofs.Shapes.{Parts, parts}
 use Rattle.slot.specs.Field.{typeAt}
+use Rattle.sizes.specs.declared.Operation.{Operation}
 use Rattle.sizes.specs.declared.Worked.the-variants.{Sized, Over}
 use Rattle.sizes.specs.Sizes.{countOf, then, wrapSize}
 use Rattle.measures.specs.Heads.{kindOf, numberOf}
 use Rattle.wiresize.specs.Steps.{kindIn, numberIn}
 
-pub wrap-over : (w : Wrap) → (wrapKind w ≡ 5 → ⊥) → (wrapKind w ≡ 7 → ⊥) → Over ≡ wrapSize (countOf w) Over
+pub wrap-over : (w : Wrap) → (wrapKind w ≡ 5 → ⊥) → (wrapKind w ≡ 7 → ⊥) → (o : Operation) → Over o ≡ wrapSize (countOf w) (Over o)
 unfolding wrapSize then
-wrap-over optional a b = refl
-wrap-over array a b = absurd (a refl)
-wrap-over setOf a b = absurd (b refl)
-wrap-over vec2 a b = refl
-wrap-over vec3 a b = refl
-wrap-over vec4 a b = refl
-wrap-over quat a b = refl
-wrap-over mat3 a b = refl
-wrap-over mat4 a b = refl
+wrap-over optional a b o = refl
+wrap-over array a b o = absurd (a refl)
+wrap-over setOf a b o = absurd (b refl)
+wrap-over vec2 a b o = refl
+wrap-over vec3 a b o = refl
+wrap-over vec4 a b o = refl
+wrap-over quat a b o = refl
+wrap-over mat3 a b o = refl
+wrap-over mat4 a b o = refl
 
 -- ## A tree that was read whole is read the same where more levels are left
 

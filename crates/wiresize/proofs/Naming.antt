@@ -26,7 +26,7 @@ use Rattle.sizes.specs.declared.Size.{Size}
 use Rattle.sizes.specs.declared.Size.the-variants.{Fixed, Bounded, Open}
 use Rattle.sizes.specs.declared.Worked.{Worked}
 use Rattle.sizes.specs.declared.Worked.the-variants.{Sized}
-use Rattle.sizes.specs.Sizes.{limit, limited, Resolver, typeSize, fieldsSize, unionSize}
+use Rattle.sizes.specs.Sizes.{limit, limited, limitedProduct, Resolver, typeSize, fieldsSize, unionSize}
 use Rattle.sizes.specs.Widths.{highest, bytesTo, flagsBytes, flagsBytesAt}
 use Rattle.sizes.specs.Names.{terminal, anything, contentIn, contentOf, State, Working, inserted, orElse, contentSize, nameRule, nameSize}
 use Rattle.sizes.specs.Check.{sizeRow, slotRow}
@@ -56,7 +56,7 @@ flags-few S i g h = go (has i (S .declared))
     go true = omega (arith, bytes-few (highest 0 (g .bits .live)))
     go false = h
 
-eight-times : (n : ℕ) → n ≤ 255 → limited (Fixed (n * 8)) ≡ Sized (Fixed (8 * n))
+eight-times : (n : ℕ) → n ≤ 255 → limitedProduct (Fixed (n * 8)) ≡ Sized (Fixed (8 * n))
 unfolding limited
 eight-times n h = let t = le-ltb limit (n * 8) (omega arith) in rw t (ap (λ (k : ℕ). Sized (Fixed k)) (mul-comm n 8))
 

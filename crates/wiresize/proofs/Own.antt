@@ -32,7 +32,7 @@ own-marked i h = fun-ext (λ j. inserted-is (replicate 512 false) i j h ∙ ap (
 
 turn-says : (w : Worked) → turnOf (turnedAs w) ≡ some w
 turn-says (Sized z) = refl
-turn-says Over = refl
+turn-says (Over o) = refl
 
 pub turned-as : {r : Turned} {w : Worked} {o : Option Worked} → r ≡ turnedAs w → some w ≡ o → turnOf r ≡ o
 turned-as {w = w} e q = ap turnOf e ∙ turn-says w ∙ q

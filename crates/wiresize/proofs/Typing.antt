@@ -13,6 +13,7 @@ use Rattle.tree.specs.Encoding.{Encoding, default, varint, zigZag, delta}
 use Rattle.slot.specs.Field.{typeAt}
 use Rattle.sizes.specs.declared.Size.{Size}
 use Rattle.sizes.specs.declared.Size.the-variants.{Bounded, Open}
+use Rattle.sizes.specs.declared.Operation.{Operation}
 use Rattle.sizes.specs.declared.Worked.{Worked}
 use Rattle.sizes.specs.declared.Worked.the-variants.{Sized, Over}
 use Rattle.sizes.specs.Sizes.{then, limitedSum, limitedProduct, multiplied, withoutLargest, Resolver, leafSize, countOf, wrapSize, typeSize, raised, widened, varintEnd, zigZagEnd, encodedSize}
@@ -72,7 +73,7 @@ module _ (R : Resolver) {t : Tree} where
   unfolding typeSize then
   result-sized e f g h q = let z = sym g ∙ f in q ∙ rw (e, z, h)
 
-  pub result-over : {u v : Tree} {ok : Worked} → t ≡ pair resultOf u v → ok ≡ Over → ok ≡ typeSize R u → ok ≡ typeSize R t
+  pub result-over : {u v : Tree} {ok : Worked} {o : Operation} → t ≡ pair resultOf u v → ok ≡ Over o → ok ≡ typeSize R u → ok ≡ typeSize R t
   unfolding typeSize then
   result-over e f g = let z = sym g ∙ f in f ∙ rw (e, z)
 

@@ -11,6 +11,7 @@ use Rattle.slot.specs.Field.{Field, fieldAt, fieldsAt}
 use Rattle.reader.specs.Reading.{schemaOf}
 use Rattle.sizes.specs.declared.Size.{Size}
 use Rattle.sizes.specs.declared.Size.the-variants.{Bounded}
+use Rattle.sizes.specs.declared.Operation.{Operation}
 use Rattle.sizes.specs.declared.Worked.{Worked}
 use Rattle.sizes.specs.declared.Worked.the-variants.{Sized, Over}
 use Rattle.sizes.specs.Sizes.{then, limitedSum, Resolver, fieldsSize, mark, addVariants, unionSize, widened, raised}
@@ -31,18 +32,18 @@ extremes-on : (R : Resolver) (extremes : Size) (v : List Field) (vs : List (List
 unfolding addVariants then
 extremes-on R extremes v vs e = rw (← e)
 
-extremes-over : (R : Resolver) (extremes : Size) (v : List Field) (vs : List (List Field)) → Over ≡ fieldsSize R v → addVariants R extremes (v ∷ vs) ≡ Over
+extremes-over : (R : Resolver) (extremes : Size) (v : List Field) (vs : List (List Field)) → (o : Operation) → Over o ≡ fieldsSize R v → addVariants R extremes (v ∷ vs) ≡ Over o
 unfolding addVariants then
-extremes-over R extremes v vs e = rw (← e)
+extremes-over R extremes v vs o e = rw (← e)
 
 extremes-done : (R : Resolver) (extremes : Size) {vs : List (List Field)} → [] ≡ vs → addVariants R extremes vs ≡ Sized extremes
 unfolding addVariants
 extremes-done R extremes e = rw (← e)
 
-union-over : (R : Resolver) (vs : List (List Field)) → addVariants R (Bounded mark 0) vs ≡ Over → Over ≡ unionSize R vs
+union-over : (R : Resolver) (vs : List (List Field)) (o : Operation) → addVariants R (Bounded mark 0) vs ≡ Over o → Over o ≡ unionSize R vs
 unfolding unionSize addVariants then
-union-over R [] e = over-not (sym e)
-union-over R (v ∷ vs) e = rw e
+union-over R [] o e = over-not (sym e)
+union-over R (v ∷ vs) o e = rw e
 
 union-sized : (R : Resolver) (vs : List (List Field)) → 0 < length vs → {x : Size} {r : Worked} → addVariants R (Bounded mark 0) vs ≡ Sized x
     → r ≡ limitedSum (raised 8 x) → r ≡ unionSize R vs
@@ -100,13 +101,13 @@ module _ (s : List ℕ) (names : ℕ) (rows : List ℕ) (w : List Bool) (count f
                   ∙ l .widens vs e q st H;
             }
 
-        pub variant-over : ((fs : List Field) (e : ℕ) → read (many fields (fieldAt names)) s after ≡ done fs e → (st : State) → RowsHold (schemaOf s) st rows
-            → Over ≡ fieldsSize (resolver s st w) fs) → (vs : List (List Field)) (e : ℕ) → Whole vs e → (st : State) → RowsHold (schemaOf s) st rows
-            → Over ≡ unionSize (resolver s st w) vs
-        variant-over o vs e q st H =
+        pub variant-over : (o : Operation) → ((fs : List Field) (e : ℕ) → read (many fields (fieldAt names)) s after ≡ done fs e → (st : State) → RowsHold (schemaOf s) st rows
+            → Over o ≡ fieldsSize (resolver s st w) fs) → (vs : List (List Field)) (e : ℕ) → Whole vs e → (st : State) → RowsHold (schemaOf s) st rows
+            → Over o ≡ unionSize (resolver s st w) vs
+        variant-over o h′ vs e q st H =
             let f = next-variant in
-            union-over _ vs (sym (l .widens vs e q st H) ∙ ap (addVariants (resolver s st w) extremes) (f .whole)
-            ∙ extremes-over _ extremes (f .first) (f .others) (o _ _ variant-fields st H))
+            union-over _ vs o (sym (l .widens vs e q st H) ∙ ap (addVariants (resolver s st w) extremes) (f .whole)
+            ∙ extremes-over _ extremes (f .first) (f .others) o (h′ _ _ variant-fields st H))
 
     pub variants-end : 0 < count → left ≤ 0 → {r : Worked} → r ≡ limitedSum (raised 8 extremes) → (vs : List (List Field)) (e : ℕ) → Whole vs e → (st : State)
         → RowsHold (schemaOf s) st rows → r ≡ unionSize (resolver s st w) vs

@@ -55,7 +55,7 @@ pub record Names (s rows : List ℕ) (w : List Bool) (id : ℕ) (r : Worked) : T
 -- what a turn answers
 abbrev pub turnOf : Turned → Option Worked
 turnOf (Turned.Sized s) = some (Sized s)
-turnOf Turned.Over = some Over
+turnOf (Turned.Over o) = some (Over o)
 turnOf Turned.Other = none
 
 pub record Owns (s rows : List ℕ) (slot : ℕ) (r : Turned) : Type 0 where

@@ -146,4 +146,4 @@ pub record Closes (s : List ℕ) (kind : ℕ) (child r : Walked) : Type 0 where
 -- what a turn answers of a size that was worked out
 abbrev pub turnedAs : Worked → Turned
 turnedAs (Sized s) = Turned.Sized s
-turnedAs Over = Turned.Over
+turnedAs (Over o) = Turned.Over o

@@ -2,6 +2,7 @@
 use image::Frame;
 use number::Next;
 use number::Ranged;
+use sizes::Operation;
 use sizes::Size;
 use sizes::Worked;
 use slot::Short;
@@ -69,7 +70,7 @@ pub enum Row {
 // A turn of a declared slot; Other is neither a message nor a union.
 pub enum Turned {
     Sized(Size),
-    Over,
+    Over(Operation),
     Other,
 }
 
@@ -83,7 +84,7 @@ fn pass_type(image: &[u8], at: usize, names: u64, size: Size) -> Walked
             next,
         },
         Next::Refused(_, place) => Walked {
-            worked: Worked::Over,
+            worked: Worked::Over(Operation::Sum),
             next: place,
         },
     }
@@ -252,7 +253,7 @@ fn wrap_child(kind: u64, child: Walked) -> Walked
             worked: measures::wrap_wire_size(kind, size),
             next,
         },
-        Worked::Over => Walked { worked, next },
+        Worked::Over(_) => Walked { worked, next },
     }
 }
 
@@ -267,7 +268,10 @@ fn join_sides(ok: Size, err: Walked) -> Walked
             worked: measures::result_wire_size(ok, size),
             next,
         },
-        Worked::Over => Walked { worked, next },
+        Worked::Over(by) => Walked {
+            worked: Worked::Over(by),
+            next,
+        },
     }
 }
 
@@ -284,11 +288,11 @@ fn repeat_element(image: &[u8], element: Walked) -> Walked
                 next: after,
             },
             Ranged::Refused(_, place) => Walked {
-                worked: Worked::Over,
+                worked: Worked::Over(Operation::Product),
                 next: place,
             },
         },
-        Worked::Over => Walked { worked, next },
+        Worked::Over(_) => Walked { worked, next },
     }
 }
 
@@ -451,7 +455,7 @@ fn compute_message_wire_size(
     ensures { λ r. ⌜ WorksOut (fieldsAt (frame .names)) fieldsSize (now (image .entry)) (now (rows .entry)) (now (working .entry)) at r ⌝ }
 {
     let Ranged::Value(count, first) = number::read_below(image, at, 65537) else {
-        return Worked::Over;
+        return Worked::Over(Operation::Sum);
     };
     let mut total = total::empty_total();
     let mut here = first;
@@ -461,7 +465,7 @@ fn compute_message_wire_size(
         let worked = field.worked;
         let raised = total::with_field(total, worked);
         if !raised.ok {
-            return Worked::Over;
+            return Worked::Over(total::stopped_by(worked));
         }
         let sum = raised.total;
         total = sum;
@@ -484,7 +488,7 @@ fn compute_union_wire_size(
     ensures { λ r. ⌜ WorksOut (variantsAt (frame .names)) unionSize (now (image .entry)) (now (rows .entry)) (now (working .entry)) at r ⌝ }
 {
     let Ranged::Value(count, first) = number::read_below(image, at, 65537) else {
-        return Worked::Over;
+        return Worked::Over(Operation::Sum);
     };
     if count == 0 {
         return Worked::Sized(Size::Bounded(8, 8));
@@ -493,10 +497,11 @@ fn compute_union_wire_size(
     let mut extremes = Size::Bounded(18446744073709551615, 0);
     let mut here = first;
     let mut over = false;
+    let mut by = Operation::Sum;
     let mut left = count;
     'variants: while 0 < left {
         let Ranged::Value(fields, after) = number::read_below(image, here, 65537) else {
-            return Worked::Over;
+            return Worked::Over(Operation::Sum);
         };
         here = after;
         let mut total = total::empty_total();
@@ -507,6 +512,7 @@ fn compute_union_wire_size(
             let raised = total::with_field(total, worked);
             if !raised.ok {
                 over = true;
+                by = total::stopped_by(worked);
                 break 'variants;
             }
             let sum = raised.total;
@@ -518,7 +524,7 @@ fn compute_union_wire_size(
         left -= 1;
     }
     if over {
-        return Worked::Over;
+        return Worked::Over(by);
     }
     measures::tag(extremes)
 }
@@ -528,7 +534,7 @@ fn turn_from(worked: Worked) -> Turned
 {
     match worked {
         Worked::Sized(size) => Turned::Sized(size),
-        Worked::Over => Turned::Over,
+        Worked::Over(by) => Turned::Over(by),
     }
 }
 

@@ -1,9 +1,10 @@
 //! The whole answer of document 01 for an image and the places lent for it.
 //!
-//! Refusals 1 to 9 come from the importer, 11 from sizes worked out here in
-//! 128 bits, sizes and findings from the upstream check.
+//! Refusals 1 to 9 come from the importer, 11 and 14 from sizes worked out here
+//! in 128 bits, sizes and findings from the upstream check.
 
 mod findings;
+mod limit;
 mod sizes;
 mod steps;
 mod whole;
@@ -12,6 +13,7 @@ mod widths;
 use std::fmt::Write;
 
 use crate::import::Refusal;
+pub use limit::{Operation, Part, PassedLimit};
 pub use steps::TooLong;
 pub use whole::{Unions, Whole};
 

@@ -1,7 +1,9 @@
 //! Sizes by the rules of document 01, in 128 bits, to see what passes
-//! 2^63 - 1. Written apart from the upstream check, which adds in 64 bits.
+//! 2^63 - 1, and by document 02 which step is the first that does. Written
+//! apart from the upstream check, which adds in 64 bits.
 
-use super::steps::{Steps, TooLong};
+use super::limit::{Halt, Operation, Part, PassedLimit, Worked};
+use super::steps::Steps;
 use super::widths::{enum_bits, flags_bytes, primitive_bits};
 use crate::ast::{PrimitiveType, SemanticType};
 use crate::format::SIZE_LIMIT;
@@ -12,23 +14,10 @@ pub enum Stop {
     /// A value passed the limit at the turn of this declared slot.
     Limit {
         slot: u64,
+        passed: PassedLimit,
     },
     TooLong,
 }
-
-/// Why the size of a part could not be worked out.
-enum Halt {
-    Limit,
-    TooLong,
-}
-
-impl From<TooLong> for Halt {
-    fn from(_: TooLong) -> Self {
-        Halt::TooLong
-    }
-}
-
-type Worked<T> = Result<T, Halt>;
 
 /// Smallest and largest bits; `fixed` where the compiler says Fixed.
 #[derive(Clone, Copy)]
@@ -60,11 +49,19 @@ fn between(least: u128, most: Option<u128>) -> Size {
     }
 }
 
-fn within(bits: u128) -> Worked<u128> {
+fn within(bits: u128, made_by: Operation) -> Worked<u128> {
     if bits > u128::from(SIZE_LIMIT) {
-        return Err(Halt::Limit);
+        return Err(made_by.into());
     }
     Ok(bits)
+}
+
+fn sum(one: u128, other: u128) -> Worked<u128> {
+    within(one + other, Operation::Sum)
+}
+
+fn product(bits: u128, factor: u128) -> Worked<u128> {
+    within(bits * factor, Operation::Product)
 }
 
 /// Three numbers a slot, as they stand after the check.
@@ -78,7 +75,7 @@ pub fn size_table(schema: &CompiledSchema, steps: &mut Steps) -> Result<Vec<u64>
         let slot = u64::from(id.index());
         match worked {
             Ok(size) => sizes.stored[id.index() as usize] = Some(size),
-            Err(Halt::Limit) => return Err(Stop::Limit { slot }),
+            Err(Halt::Limit(passed)) => return Err(Stop::Limit { slot, passed }),
             Err(Halt::TooLong) => return Err(Stop::TooLong),
         }
     }
@@ -146,9 +143,14 @@ impl<'a> Sizes<'a> {
         self.working[slot] = true;
         self.steps.enter();
         let size = match self.schema.registry.get(id) {
-            Some(TypeDef::Message(message)) => self.sum(&message.fields),
+            Some(TypeDef::Message(message)) => {
+                let size = self.total(&message.fields);
+                size.map_err(|halt| halt.inside(Part::Message))
+            }
             Some(TypeDef::Union(un)) => {
-                self.extremes(un.variants.iter().map(|variant| &variant.fields[..]))
+                let variants = un.variants.iter().map(|variant| &variant.fields[..]);
+                let size = self.extremes(variants);
+                size.map_err(|halt| halt.inside(Part::Union))
             }
             _ => Ok(ANY),
         };
@@ -157,13 +159,13 @@ impl<'a> Sizes<'a> {
         size
     }
 
-    fn sum(&mut self, fields: &[FieldDef]) -> Worked<Size> {
+    fn total(&mut self, fields: &[FieldDef]) -> Worked<Size> {
         let mut total = fixed(0);
         for field in fields {
             let size = self.field(field)?;
-            total.least = within(total.least + size.least)?;
+            total.least = sum(total.least, size.least)?;
             total.most = match (total.most, size.most) {
-                (Some(total), Some(most)) => Some(within(total + most)?),
+                (Some(total), Some(most)) => Some(sum(total, most)?),
                 _ => None,
             };
             total.fixed &= size.fixed;
@@ -175,11 +177,11 @@ impl<'a> Sizes<'a> {
         let mut least = None;
         let mut most = Some(0);
         for fields in variants {
-            let sum = self.sum(fields)?;
-            least = Some(least.map_or(sum.least, |least: u128| least.min(sum.least)));
-            most = most.zip(sum.most).map(|(one, other)| one.max(other));
+            let total = self.total(fields)?;
+            least = Some(least.map_or(total.least, |least: u128| least.min(total.least)));
+            most = most.zip(total.most).map(|(one, other)| one.max(other));
         }
-        let least = within(8 + least.unwrap_or(0))?;
+        let least = sum(8, least.unwrap_or(0))?;
         Ok(between(least, raised(most, 8)?))
     }
 
@@ -199,7 +201,10 @@ impl<'a> Sizes<'a> {
         self.steps.enter();
         let size = self.of_kind(ty);
         self.steps.leave();
-        size
+        match part(ty) {
+            Some(part) => size.map_err(|halt| halt.inside(part)),
+            None => size,
+        }
     }
 
     fn of_kind(&mut self, ty: &ResolvedType) -> Worked<Size> {
@@ -218,7 +223,7 @@ impl<'a> Sizes<'a> {
             }
             ResolvedType::FixedArray(part, size) => {
                 let element = self.of_type(part)?;
-                let least = within(element.least * u128::from(*size))?;
+                let least = product(element.least, u128::from(*size))?;
                 if element.fixed {
                     fixed(least)
                 } else {
@@ -228,7 +233,7 @@ impl<'a> Sizes<'a> {
             ResolvedType::Result(ok, err) => {
                 let (ok, err) = (self.of_type(ok)?, self.of_type(err)?);
                 let most = ok.most.zip(err.most).map(|(ok, err)| ok.max(err));
-                between(within(1 + ok.least.min(err.least))?, raised(most, 1)?)
+                between(sum(1, ok.least.min(err.least))?, raised(most, 1)?)
             }
             ResolvedType::Vec2(part) => self.times(part, 2)?,
             ResolvedType::Vec3(part) => self.times(part, 3)?,
@@ -241,12 +246,12 @@ impl<'a> Sizes<'a> {
     fn times(&mut self, part: &ResolvedType, factor: u128) -> Worked<Size> {
         let size = self.of_type(part)?;
         let most = match size.most {
-            Some(most) => Some(within(most * factor)?),
+            Some(most) => Some(product(most, factor)?),
             None => None,
         };
         Ok(Size {
             fixed: size.fixed,
-            least: within(size.least * factor)?,
+            least: product(size.least, factor)?,
             most,
         })
     }
@@ -276,7 +281,23 @@ impl<'a> Sizes<'a> {
 }
 
 fn raised(most: Option<u128>, by: u128) -> Worked<Option<u128>> {
-    most.map(|most| within(most + by)).transpose()
+    most.map(|most| sum(most, by)).transpose()
+}
+
+/// What a type is to the steps inside it.
+fn part(ty: &ResolvedType) -> Option<Part> {
+    match ty {
+        ResolvedType::Result(..) => Some(Part::Result),
+        ResolvedType::Optional(_) => Some(Part::Optional),
+        ResolvedType::FixedArray(..) => Some(Part::FixedArray),
+        ResolvedType::Vec2(_)
+        | ResolvedType::Vec3(_)
+        | ResolvedType::Vec4(_)
+        | ResolvedType::Quat(_)
+        | ResolvedType::Mat3(_)
+        | ResolvedType::Mat4(_) => Some(Part::Vector),
+        _ => None,
+    }
 }
 
 fn row(size: Size) -> [u64; 3] {

@@ -2,6 +2,7 @@
 //! one working-out answers for tables of any length.
 
 use super::findings::{findings, mark_spans};
+use super::limit::PassedLimit;
 use super::sizes::{size_table, Stop};
 use super::steps::{Steps, TooLong, STEP_LIMIT};
 use super::{refused, Answer, Places};
@@ -13,15 +14,18 @@ use crate::typeck::{check, compute_wire_sizes};
 enum Failure {
     /// One of 1 to 9.
     Read(Refusal),
-    /// Refusal 11, at this declared slot.
-    Limit(u64),
+    /// Refusal 11 or 14, at this declared slot.
+    Limit {
+        slot: u64,
+        passed: PassedLimit,
+    },
     TooLong,
 }
 
 impl From<Stop> for Failure {
     fn from(stop: Stop) -> Self {
         match stop {
-            Stop::Limit { slot } => Failure::Limit(slot),
+            Stop::Limit { slot, passed } => Failure::Limit { slot, passed },
             Stop::TooLong => Failure::TooLong,
         }
     }
@@ -104,6 +108,14 @@ impl Whole {
         }
     }
 
+    /// The first step that passes the limit, if one does.
+    pub fn passed_limit(&self) -> Option<PassedLimit> {
+        match self.sizes {
+            Err(Failure::Limit { passed, .. }) => Some(passed),
+            _ => None,
+        }
+    }
+
     /// Numbers that the findings take, if they are known.
     pub fn finding_places(&self) -> Option<usize> {
         self.findings.as_ref().ok().map(Vec::len)
@@ -114,7 +126,7 @@ impl Whole {
         match &self.sizes {
             Err(Failure::Read(refusal)) => Ok((*refusal).into()),
             _ if places < 3 * self.starts.len() as u64 => Ok(refused(10, 0)),
-            Err(Failure::Limit(slot)) => Ok(refused(11, *slot)),
+            Err(Failure::Limit { slot, passed }) => Ok(refused(passed.operation.number(), *slot)),
             Err(Failure::TooLong) => Err(TooLong),
             Ok(sizes) => Ok(Answer::Accepted {
                 count: 0,

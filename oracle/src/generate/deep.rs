@@ -2,7 +2,7 @@
 //! slots, each naming the next one below 31 wrappers.
 
 use crate::model::{
-    field, fixed, message, pair, wrap, Encoding, Field, Schema, Slot, Stored, Tree, OPTIONAL,
+    field, fixed, message, pair, union, wrap, Encoding, Field, Schema, Slot, Tree, OPTIONAL,
     RESULT, U8, VOID,
 };
 use crate::random::Random;
@@ -72,10 +72,7 @@ impl Chain {
             link => link,
         };
         match link {
-            Link::Union => Slot::Union {
-                stored: Stored::None,
-                variants: vec![vec![self.field(tree)]],
-            },
+            Link::Union => union(vec![vec![self.field(tree)]]),
             Link::Newtype => Slot::Newtype {
                 inner: slot.checked_sub(1).map_or(U8, Tree::Named),
                 terminal: tree,

@@ -1,14 +1,16 @@
-//! Refusal 11 by each operation on sizes: the greatest size of an element that
-//! is accepted, and one bit more, with the answer that document 01 gives.
+//! Refusals 11 and 14 by each operation on sizes: the greatest size of an
+//! element that is accepted, and one bit more, with the answer that documents
+//! 01 and 02 give.
 
 use std::sync::OnceLock;
 
 use super::bounds::{add, Boundary};
+use super::first::{by_product, by_sum, first_steps};
 use super::Emit;
 use crate::format::SIZE_LIMIT;
 use crate::model::{
-    field, fixed, message, pair, wrap, Encoding, Field, Schema, Slot, Stored, Tree, BOOL, OPTIONAL,
-    RESULT, VEC2,
+    field, fixed, message, pair, union, wrap, Encoding, Field, Schema, Slot, Stored, Tree, BOOL,
+    OPTIONAL, RESULT, VEC2,
 };
 use crate::random::Random;
 
@@ -23,8 +25,12 @@ pub fn all_edges() -> &'static [Boundary] {
                     edge(&mut all, operation, form, around);
                 }
             }
+            for around in AROUND {
+                past_before(&mut all, operation, around);
+            }
         }
         running_totals(&mut all);
+        first_steps(&mut all);
         all
     })
 }
@@ -34,16 +40,18 @@ pub fn edges(random: &mut Random, emit: Emit<'_>) {
     emit(&all[random.below(all.len() as u64) as usize].image);
 }
 
-/// What an operation makes of an element, and the greatest smallest and
-/// largest size that the element may have; none where it does not count.
+/// What an operation makes of an element, the greatest smallest and largest
+/// size that the element may have, none where it does not count, and the
+/// refusal's number above.
 struct Operation {
     what: &'static str,
     least: Option<u64>,
     most: Option<u64>,
     make: fn(Tree) -> Slot,
+    number: u64,
 }
 
-const fn operation(
+const fn sum(
     what: &'static str,
     least: Option<u64>,
     most: Option<u64>,
@@ -54,6 +62,19 @@ const fn operation(
         least,
         most,
         make,
+        number: 11,
+    }
+}
+
+const fn product(
+    what: &'static str,
+    least: Option<u64>,
+    most: Option<u64>,
+    make: fn(Tree) -> Slot,
+) -> Operation {
+    Operation {
+        number: 14,
+        ..sum(what, least, most, make)
     }
 }
 
@@ -66,54 +87,54 @@ const fn part(factor: u64) -> Option<u64> {
 }
 
 const OPERATIONS: &[Operation] = &[
-    operation("field alone", None, None, one),
-    operation("sum", below(1), below(1), |part| of(&[part, BOOL])),
-    operation("sum after", below(1), below(1), |part| of(&[BOOL, part])),
-    operation("sum of itself", part(2), part(2), |part| {
+    sum("field alone", None, None, one),
+    sum("sum", below(1), below(1), |part| of(&[part, BOOL])),
+    sum("sum after", below(1), below(1), |part| of(&[BOOL, part])),
+    sum("sum of itself", part(2), part(2), |part| {
         of(&[part.clone(), part])
     }),
-    operation("sum with Varint", below(8), below(24), |part| {
+    sum("sum with Varint", below(8), below(24), |part| {
         encoded(part, 1, Tree::Primitive(2))
     }),
-    operation("sum with ZigZag", below(8), below(80), |part| {
+    sum("sum with ZigZag", below(8), below(80), |part| {
         encoded(part, 2, BOOL)
     }),
-    operation("Optional", None, below(1), |part| one(wrap(OPTIONAL, part))),
-    operation("Result", below(1), below(1), |part| {
+    sum("Optional", None, below(1), |part| one(wrap(OPTIONAL, part))),
+    sum("Result", below(1), below(1), |part| {
         one(pair(RESULT, part.clone(), part))
     }),
-    operation("Result ok", None, below(1), |part| {
+    sum("Result ok", None, below(1), |part| {
         one(pair(RESULT, part, BOOL))
     }),
-    operation("Result err", None, below(1), |part| {
+    sum("Result err", None, below(1), |part| {
         one(pair(RESULT, BOOL, part))
     }),
-    operation("fixed array of 3", part(3), None, |part| {
+    product("fixed array of 3", part(3), None, |part| {
         one(fixed(part, 3))
     }),
-    operation("fixed array of 0", None, None, |part| one(fixed(part, 0))),
-    operation("Vec2", part(2), part(2), |part| one(wrap(VEC2, part))),
-    operation("Vec3", part(3), part(3), |part| one(wrap(11, part))),
-    operation("Vec4", part(4), part(4), |part| one(wrap(12, part))),
-    operation("Quat", part(4), part(4), |part| one(wrap(13, part))),
-    operation("Mat3", part(9), part(9), |part| one(wrap(14, part))),
-    operation("Mat4", part(16), part(16), |part| one(wrap(15, part))),
-    operation("Optional Vec2", part(2), part(2), |part| {
+    product("fixed array of 0", None, None, |part| one(fixed(part, 0))),
+    product("Vec2", part(2), part(2), |part| one(wrap(VEC2, part))),
+    product("Vec3", part(3), part(3), |part| one(wrap(11, part))),
+    product("Vec4", part(4), part(4), |part| one(wrap(12, part))),
+    product("Quat", part(4), part(4), |part| one(wrap(13, part))),
+    product("Mat3", part(9), part(9), |part| one(wrap(14, part))),
+    product("Mat4", part(16), part(16), |part| one(wrap(15, part))),
+    product("Optional Vec2", part(2), part(2), |part| {
         one(wrap(OPTIONAL, wrap(VEC2, part)))
     }),
-    operation("Vec2 Optional", None, Some(SIZE_LIMIT / 2 - 1), |part| {
+    product("Vec2 Optional", None, Some(SIZE_LIMIT / 2 - 1), |part| {
         one(wrap(VEC2, wrap(OPTIONAL, part)))
     }),
-    operation("variant", below(8), below(8), |part| {
+    sum("variant", below(8), below(8), |part| {
         union(vec![vec![field(0, part)]])
     }),
-    operation("variant beside an empty one", None, below(8), |part| {
+    sum("variant beside an empty one", None, below(8), |part| {
         union(vec![vec![], vec![field(0, part)]])
     }),
-    operation("sum in a variant", below(8), below(8), |part| {
+    sum("sum in a variant", below(8), below(8), |part| {
         union(vec![vec![field(0, part), field(0, Tree::Primitive(13))]])
     }),
-    operation(
+    sum(
         "running total of a variant",
         below(1),
         below(8 + 1),
@@ -135,13 +156,6 @@ fn encoded(part: Tree, last: u64, tree: Tree) -> Slot {
         ..field(0, tree)
     };
     message(0, vec![field(0, part), other])
-}
-
-fn union(variants: Vec<Vec<Field>>) -> Slot {
-    Slot::Union {
-        stored: Stored::None,
-        variants,
-    }
 }
 
 /// How the element has its size.
@@ -261,31 +275,42 @@ impl Around {
     }
 }
 
+/// All slots, the first of them the operation's.
+fn schema(first: Slot, around: Around, form: Form, bits: u64) -> Schema {
+    let newtype = Slot::Newtype {
+        inner: BOOL,
+        terminal: Tree::Named(0),
+    };
+    Schema {
+        names: vec![0],
+        slots: vec![first, around.slot(), form.element(bits), newtype],
+        declarations: around.declarations(form),
+    }
+}
+
 fn edge(all: &mut Vec<Boundary>, operation: &Operation, form: Form, around: Around) {
     let least = operation.least.filter(|_| form.has_least());
     let most = operation.most.filter(|_| form.has_most());
     let greatest = least.into_iter().chain(most).min();
     let what = format!("{} of {form:?} below {around:?}", operation.what);
     let mut add_image = |bits, refused| {
-        let schema = Schema {
-            names: vec![0],
-            slots: vec![
-                (operation.make)(form.tree(bits)),
-                around.slot(),
-                form.element(bits),
-                Slot::Newtype {
-                    inner: BOOL,
-                    terminal: Tree::Named(0),
-                },
-            ],
-            declarations: around.declarations(form),
-        };
-        add(all, format!("{what}, {bits} bits"), schema.bytes(), refused);
+        let first = (operation.make)(form.tree(bits));
+        let image = schema(first, around, form, bits).bytes();
+        add(all, format!("{what}, {bits} bits"), image, refused);
     };
     add_image(greatest.unwrap_or(SIZE_LIMIT), None);
     if let Some(greatest) = greatest {
         add_image(greatest - 1, None);
-        add_image(greatest + 1, Some((11, around.place())));
+        add_image(greatest + 1, Some((operation.number, around.place())));
+    }
+}
+
+/// Elements that pass the limit themselves, before anything is made of them.
+fn past_before(all: &mut Vec<Boundary>, operation: &Operation, around: Around) {
+    for (element, number) in [(by_sum(), 11), (by_product(), 14)] {
+        let what = format!("{} of {element:?} below {around:?}", operation.what);
+        let image = schema((operation.make)(element), around, Form::Array, 0).bytes();
+        add(all, what, image, Some((number, around.place())));
     }
 }
 

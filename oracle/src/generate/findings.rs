@@ -3,7 +3,7 @@
 use super::schemas::{declarations, span};
 use super::trees::WRAPS;
 use crate::model::{
-    declared, field, fixed, generic, message, pair, wrap, Field, Impl, Schema, Slot, Stored, Tree,
+    declared, field, fixed, generic, message, pair, union, wrap, Field, Impl, Schema, Slot, Tree,
     OPTIONAL, RESULT, U32, U8, VOID,
 };
 use crate::random::Random;
@@ -55,10 +55,7 @@ fn between(random: &mut Random, next: u64) -> Slot {
             inner: wrap(OPTIONAL, name),
             terminal: VOID,
         },
-        2 => Slot::Union {
-            stored: Stored::None,
-            variants: vec![vec![], vec![field(0, name)]],
-        },
+        2 => union(vec![vec![], vec![field(0, name)]]),
         3 => message(next, vec![field(0, name)]),
         _ => Slot::Newtype {
             inner: name.clone(),

@@ -4,7 +4,7 @@ use super::schemas::{schema_of, Style};
 use super::trees::{field, Pool};
 use super::Emit;
 use crate::format::IMAGE_LIMIT;
-use crate::model::{field as plain_field, message, Schema, Slot, Stored, Tree};
+use crate::model::{field as plain_field, message, union, Schema, Slot, Tree};
 use crate::random::Random;
 
 /// A full image, then one cut and one changed.
@@ -91,10 +91,7 @@ fn many_variants(random: &mut Random) -> Schema {
     }
     Schema {
         names: vec![0],
-        slots: vec![Slot::Union {
-            stored: Stored::None,
-            variants,
-        }],
+        slots: vec![union(variants)],
         declarations: vec![0],
     }
 }

@@ -2,8 +2,8 @@
 
 use crate::format::SIZE_LIMIT;
 use crate::model::{
-    field, fixed, message, pair, wrap, Field, Schema, Slot, Stored, Tree, ARRAY, BOOL, OPTIONAL,
-    RESULT, VOID,
+    field, fixed, message, pair, union, wrap, Field, Schema, Slot, Stored, Tree, ARRAY, BOOL,
+    OPTIONAL, RESULT, VOID,
 };
 use crate::random::Random;
 
@@ -61,10 +61,7 @@ fn main_slot(random: &mut Random, stores: &mut Stores) -> Slot {
     };
     let mut variants = vec![fields, other];
     random.shuffle(&mut variants);
-    Slot::Union {
-        stored: Stored::None,
-        variants,
-    }
+    union(variants)
 }
 
 fn fields(random: &mut Random, stores: &mut Stores) -> Vec<Field> {

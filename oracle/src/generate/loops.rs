@@ -3,7 +3,7 @@
 use super::schemas::{declarations, with_encoding};
 use super::trees::WRAPS;
 use crate::model::{
-    declared, field, fixed, generic, message, pair, wrap, Schema, Slot, Stored, Tree, ARRAY, MAP,
+    declared, field, fixed, generic, message, pair, union, wrap, Schema, Slot, Tree, ARRAY, MAP,
     OPTIONAL, RESULT, SET, U8, VOID,
 };
 use crate::random::Random;
@@ -16,10 +16,7 @@ pub fn newtypes(random: &mut Random) -> Schema {
         let terminal = references(random, slot, slots, followed);
         match random.below(8) {
             0 => message(slot, vec![field(0, terminal)]),
-            1 => Slot::Union {
-                stored: Stored::None,
-                variants: vec![vec![field(0, terminal)]],
-            },
+            1 => union(vec![vec![field(0, terminal)]]),
             2 => Slot::Newtype {
                 inner: terminal,
                 terminal: U8,
@@ -81,10 +78,7 @@ pub fn messages(random: &mut Random) -> Schema {
             })
             .collect();
         match random.below(6) {
-            0 => Slot::Union {
-                stored: Stored::None,
-                variants: vec![fields, vec![]],
-            },
+            0 => union(vec![fields, vec![]]),
             1 => Slot::Newtype {
                 inner: Tree::Named(random.below(slots)),
                 terminal: random.pick(&[U8, VOID, wrap(ARRAY, Tree::Named(slot))]),

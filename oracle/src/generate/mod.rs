@@ -5,6 +5,7 @@ mod damage;
 pub mod deep;
 pub mod edges;
 pub mod findings;
+mod first;
 pub mod full;
 mod limits;
 pub mod loops;

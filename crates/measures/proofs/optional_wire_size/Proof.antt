@@ -15,4 +15,4 @@ optional-wire-size-spec =
     (λ c κs. search needs)
     (λ c κs. search needs)
     (λ c κs. search needs)
-    (λ c. one-more (largest (c .before .before .before .before .args .size)) (highOf (c .before .before .sum-bounds .result)) (c .within-limit .ensures) (c .before .vary .ensures) (c .before .before .sum-bounds .ensures ∙ ap (both cutSum (some 1)) (c .before .before .before .wire-size-max-bits .ensures))))
+    (λ c. one-more _ (largest (c .before .before .before .before .args .size)) (highOf (c .before .before .sum-bounds .result)) (c .within-limit .ensures) (c .before .vary .ensures) (c .before .before .sum-bounds .ensures ∙ ap (both cutSum (some 1)) (c .before .before .before .wire-size-max-bits .ensures))))

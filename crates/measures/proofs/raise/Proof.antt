@@ -18,4 +18,4 @@ raise-spec =
     (λ c κs. search needs)
     (λ c κs. search needs)
     (λ c κs. search needs)
-    (λ c. summed _ (some (c .before .before .before .before .before .before .args .bits)) (largest (c .before .before .before .before .before .before .args .size)) _ (highOf (c .before .before .sum-bounds .result)) (c .within-limit .ensures) (c .before .vary .ensures) (c .before .before .before .before .sum .ensures ∙ ap (λ (m : ℕ). min (c .before .before .before .before .before .before .args .bits + m) (2 ^ 63)) (c .before .before .before .before .before .wire-size-min-bits .ensures)) (c .before .before .sum-bounds .ensures ∙ ap (both cutSum (some (c .before .before .before .before .before .before .args .bits))) (c .before .before .before .wire-size-max-bits .ensures))))
+    (λ c. summed _ _ (some (c .before .before .before .before .before .before .args .bits)) (largest (c .before .before .before .before .before .before .args .size)) _ (highOf (c .before .before .sum-bounds .result)) (c .within-limit .ensures) (c .before .vary .ensures) (c .before .before .before .before .sum .ensures ∙ ap (λ (m : ℕ). min (c .before .before .before .before .before .before .args .bits + m) (2 ^ 63)) (c .before .before .before .before .before .wire-size-min-bits .ensures)) (c .before .before .sum-bounds .ensures ∙ ap (both cutSum (some (c .before .before .before .before .before .before .args .bits))) (c .before .before .before .wire-size-max-bits .ensures))))

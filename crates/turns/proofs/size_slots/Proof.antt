@@ -17,7 +17,13 @@ size-slots-spec =
     (λ c. search needs)
     (λ c. search needs)
     (λ c κs. search needs)
+    (λ c κs. search needs)
     (λ c. search needs)
     (λ c. all-passed _ _ _ (omega (arith, c .before .before .before .before .before .before .before .before .before .before .before .before .before .before .before .before .before .before .before .pre .count, c .before .before .before .before .before .before .before .before .before .before .if1 .left)) _ (c .before .before .before .before .before .before .before .before .before .before .before .before .before .before .clear .ensures) (at-through _ _ _ _ _ (c .before .before .before .before .take-turns .ensures _ (omega (arith, c .before .before .before .before .before .before .before .before .before .before .before .before .before .before .before .before .before .before .before .pre .count, c .before .before .before .before .before .before .before .before .before .before .if1 .left)) (c .before .before .before .before .before .before .before .before .fill-rows .ensures)) (c .enum-told .given .1)))
     (λ c. search needs)
-    (λ c. passed-limit _ _ _ (omega (arith, c .before .before .before .before .before .before .before .before .before .before .before .before .before .before .before .before .before .before .before .before .before .before .before .before .pre .count, c .before .before .before .before .before .before .before .before .before .before .before .before .before .before .before .if1 .left)) _ _ (search needs) (at-through _ _ _ _ _ (c .before .before .before .before .before .before .before .before .before .take-turns .ensures _ (omega (arith, c .before .before .before .before .before .before .before .before .before .before .before .before .before .before .before .before .before .before .before .before .before .before .before .before .pre .count, c .before .before .before .before .before .before .before .before .before .before .before .before .before .before .before .if1 .left)) (c .before .before .before .before .before .before .before .before .before .before .before .before .before .fill-rows .ensures)) (c .before .before .before .before .before .slot .given .1)) (c .before .before .clear2 .ensures)))
+    (λ c.
+    let passed = c .before .before .before .before .before .before .before .before .before .before in
+    let tested = passed .before .before .before .before .before .before in
+    let count = tested .before .before .before .before .before .before .before .before .before .pre .count in
+    passed-limit _ _ _ (omega (arith, count, tested .if1 .left)) _ _ _ _ (c .refusal-of .ensures) (search needs)
+    (at-through _ _ _ _ _ (passed .take-turns .ensures _ (omega (arith, count, tested .if1 .left)) (passed .before .before .before .before .fill-rows .ensures)) (c .before .before .before .before .before .before .by .given .1)) (c .before .before .before .clear2 .ensures)))

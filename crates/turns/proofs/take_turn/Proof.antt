@@ -4,57 +4,44 @@ use borrow.Author.Needs.{needs}
 use Rattle.turns.proofs.take_turn.Statement.{statement}
 use Rattle.turns.proofs.take_turn.Tie as tie
 
--- src/lib.rt:50:9
 returns : tie.Need-returns
 returns c = λ l st h e. beyond _ _ _ _ _ h e (omega (arith, c .before .before .before .before .before .pre .0 .count, c .if1 .taken))
 
--- src/lib.rt:53:11
 own-size-requires : tie.Need-own-size-requires
 own-size-requires c κs = (c .before .before .before .before .before .before .pre .0, omega arith, c .before .before .before .before .before .before .pre .1)
 
--- src/lib.rt:54:23
 enum-known-size : tie.Need-enum-known-size
 enum-known-size c = search needs
 
--- src/lib.rt:55:36
 size-row-requires : tie.Need-size-row-requires
 size-row-requires c κs = search needs
 
--- src/lib.rt:55:13
 put-row-requires : tie.Need-put-row-requires
 put-row-requires c κs = omega (arith, c .before .before .before .before .before .before .before .before .before .before .before .before .pre .1, c .before .before .before .before .before .before .before .if1 .left)
 
--- src/lib.rt:58:25
+enum-known-by : tie.Need-enum-known-by
+enum-known-by c = search needs
+
 enum-told : tie.Need-enum-told
 enum-told c = search needs
 
--- src/lib.rt:59:26
-enum-told-2 : tie.Need-enum-told-2
-enum-told-2 c = search needs
-
--- src/lib.rt:45:1
 same-length : tie.Need-same-length
 same-length c = search needs
 
--- src/lib.rt:45:1
 returns-2 : tie.Need-returns-2
 returns-2 c = λ l st h e. sized _ _ _ _ _ h e _ _ (c .before .before .before .before .before .before .before .before .own-size .ensures .turn st (holds _ st l _ h e)) (c .before .before .before .before .before .before .size .given .1) _ _ (c .before .before .before .size-row .ensures) (c .before .before .put-row .ensures)
 
--- src/lib.rt:45:1
 same-length-2 : tie.Need-same-length-2
 same-length-2 c = search needs
 
--- src/lib.rt:45:1
 returns-3 : tie.Need-returns-3
-returns-3 c = λ l st h e. over _ _ _ _ _ h e _ (c .before .before .own-size .ensures .turn st (holds _ st l _ h e)) (c .enum-told .given .1)
+returns-3 c = λ l st h e. over _ _ _ _ _ h e _ _ (c .before .before .before .own-size .ensures .turn st (holds _ st l _ h e)) (c .before .by .given .1)
 
--- src/lib.rt:45:1
 same-length-3 : tie.Need-same-length-3
 same-length-3 c = search needs
 
--- src/lib.rt:45:1
 returns-4 : tie.Need-returns-4
-returns-4 c = λ l st h e. other _ _ _ _ _ h e _ (c .before .before .own-size .ensures .turn st (holds _ st l _ h e)) (c .enum-told2 .given .1)
+returns-4 c = λ l st h e. other _ _ _ _ _ h e _ (c .before .before .own-size .ensures .turn st (holds _ st l _ h e)) (c .enum-told .given .1)
 
 pub take-turn-spec : {M : Type 1} → statement M
 take-turn-spec =
@@ -65,8 +52,8 @@ take-turn-spec =
     enum-known-size
     size-row-requires
     put-row-requires
+    enum-known-by
     enum-told
-    enum-told-2
     same-length
     returns-2
     same-length-2

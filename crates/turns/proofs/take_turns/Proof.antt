@@ -13,59 +13,59 @@ Inv-loop image starts frame rows₀ left₀ p₀ rows left p = Going image (sche
 abbrev μ-loop : tie.MeasureT-loop
 μ-loop image starts frame rows₀ left₀ p₀ rows left p = left
 
--- src/lib.rt:70:5
 loop-holds : tie.Need-loop-holds Inv-loop μ-loop
 loop-holds c = first-turn _ _ _ _ _ _ (c .before .before .before .pre .0 .declared)
 
--- src/lib.rt:71:15
 read-below-requires : tie.Need-read-below-requires Inv-loop μ-loop
 read-below-requires c κs = search needs
 
--- src/lib.rt:72:27
 enum-known-slot : tie.Need-enum-known-slot Inv-loop μ-loop
 enum-known-slot c = search needs
 
--- src/lib.rt:73:20
 take-turn-requires : tie.Need-take-turn-requires Inv-loop μ-loop
 take-turn-requires c κs = (c .before .before .before .before .before .before .before .before .before .before .pre .0, omega (arith, c .before .before .before .before .before .before .before .before .before .before .pre .1, c .before .before .before .before .before .before .loop .inv .long))
 
--- src/lib.rt:75:21
+enum-told : tie.Need-enum-told Inv-loop μ-loop
+enum-told c = search needs
+
 sub-left : tie.Need-sub-left Inv-loop μ-loop
 sub-left c = omega arith
 
--- src/lib.rt:70:5
 loop-less : tie.Need-loop-less Inv-loop μ-loop
 loop-less c = omega arith
 
--- src/lib.rt:70:5
 loop-again : tie.Need-loop-again Inv-loop μ-loop
-loop-again c = next-turn _ _ _ _ _ _ (c .before .before .before .before .before .before .before .before .before .before .loop .inv) (c .before .before .before .before .before .before .before .before .before .loop-test .taken) _ _ (told (c .before .before .before .before .before .before .before .before .read-below .ensures) (c .before .before .before .before .before .before .slot .given .1)) _ _ (c .if1 .taken) (search needs) (c .before .before .before .take-turn .ensures)
+loop-again c =
+    let turned = c .before .before .before .before in
+    let behind = turned .before .before .before .before .before in
+    next-turn _ _ _ _ _ _ (behind .before .before .loop .inv) (behind .before .loop-test .taken) _ _
+    (told (behind .read-below .ensures) (turned .before .before .before .slot .given .1)) _ _ (c .enum-told .given .1) (search needs) (turned .take-turn .ensures)
 
--- src/lib.rt:77:21
+enum-known-by : tie.Need-enum-known-by Inv-loop μ-loop
+enum-known-by c = search needs
+
 same-length : tie.Need-same-length Inv-loop μ-loop
 same-length c = search needs
 
--- src/lib.rt:77:21
 returns : tie.Need-returns Inv-loop μ-loop
-returns c = over-turn _ _ _ _ _ _ (c .before .before .before .before .before .before .before .before .before .before .loop .inv) (c .before .before .before .before .before .before .before .before .before .loop-test .taken) _ _ (told (c .before .before .before .before .before .before .before .before .read-below .ensures) (c .before .before .before .before .before .before .slot .given .1)) _ _ (c .if1 .left) (c .before .before .before .take-turn .ensures)
+returns c =
+    let turned = c .before .before .before .before .before in
+    let behind = turned .before .before .before .before .before in
+    over-turn _ _ _ _ _ _ (behind .before .before .loop .inv) (behind .before .loop-test .taken) _ _
+    (told (behind .read-below .ensures) (turned .before .before .before .slot .given .1)) _ _ _ (c .before .by .given .1) (turned .take-turn .ensures)
 
--- src/lib.rt:80:32
 enum-known-q : tie.Need-enum-known-q Inv-loop μ-loop
 enum-known-q c = search needs
 
--- src/lib.rt:81:17
 same-length-2 : tie.Need-same-length-2 Inv-loop μ-loop
 same-length-2 c = c .before .before .before .before .before .loop .inv .long
 
--- src/lib.rt:81:17
 returns-2 : tie.Need-returns-2 Inv-loop μ-loop
 returns-2 c = stop-turn _ _ _ _ _ _ (c .before .before .before .before .before .loop .inv) (c .before .before .before .before .loop-test .taken) _ _ (told (c .before .before .before .read-below .ensures) (c .before .q .given .1)) Passed.All
 
--- src/lib.rt:64:1
 same-length-3 : tie.Need-same-length-3 Inv-loop μ-loop
 same-length-3 c = c .before .loop .inv .long
 
--- src/lib.rt:64:1
 returns-3 : tie.Need-returns-3 Inv-loop μ-loop
 returns-3 c = last-turn _ _ _ _ _ _ (c .before .loop .inv) (c .loop-test .left)
 
@@ -79,9 +79,11 @@ take-turns-spec =
     read-below-requires
     enum-known-slot
     take-turn-requires
+    enum-told
     sub-left
     loop-less
     loop-again
+    enum-known-by
     same-length
     returns
     enum-known-q

@@ -11,7 +11,7 @@ returns c = record { next = refl; sized = λ z q. (_, c .before .before .worked 
 
 returns-2 : tie.Need-returns-2
 unfolding then
-returns-2 c = record { next = refl; sized = λ z q. absurd (not-over (c .enum-told .given .1) q); worked = simp (c .enum-told .given .1) }
+returns-2 c = record { next = refl; sized = λ z q. absurd (not-over refl q); worked = simp (c .before .worked2 .given .1) }
 
 pub join-sides-spec : {M : Type 1} → statement M
 join-sides-spec =

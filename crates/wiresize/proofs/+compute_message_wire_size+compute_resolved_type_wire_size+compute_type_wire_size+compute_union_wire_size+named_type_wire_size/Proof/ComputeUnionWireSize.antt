@@ -1,4 +1,6 @@
 use borrow.Author.Needs.{needs}
+use Rattle.sizes.specs.declared.Operation.{Operation}
+use Rattle.sizes.specs.declared.Worked.{Worked}
 use native.Mathlib.Omega.{arith}
 use native.Mathlib.Nat.{pos-of-ne-zero}
 use Prim.Native.Nat.{ℕ}
@@ -6,6 +8,7 @@ use Rattle.wiresize.proofs.compute_union_wire_size.Reads as compute-uni
 use Rattle.wiresize.proofs.+compute_message_wire_size+compute_resolved_type_wire_size+compute_type_wire_size+compute_union_wire_size+named_type_wire_size.Lts-compute_union_wire_size as compute-union-wire-size-lts
 use Rattle.total.proofs.empty_total.Reads as empty-total-reads
 use Rattle.total.proofs.with_field.Reads as with-field-reads
+use Rattle.total.proofs.stopped_by.Reads as stopped-by-reads
 use Rattle.total.proofs.total_size.Reads as total-size-reads
 use borrow.Author.Tests.{not-true, not-false}
 use Rattle.measures.proofs.tag.Reads as tag-reads
@@ -13,7 +16,7 @@ use Rattle.measures.proofs.widen.Reads as widen-reads
 use Rattle.number.proofs.read_below.Reads as read-below-reads
 use Rattle.wiresize.proofs.compute_type_wire_size.Reads as compute-type-wire-size
 use Rattle.wiresize.proofs.+compute_message_wire_size+compute_resolved_type_wire_size+compute_type_wire_size+compute_union_wire_size+named_type_wire_size.Proof.Common.{compute-type-wire-size-below, compute-union-wire-size-at}
-use mathlib.Core.Path.{_≡_, refl, sym, _∙_}
+use mathlib.Core.Path.{_≡_, refl, sym, ap, _∙_}
 use mathlib.Core.Bool.{false}
 use mathlib.Core.Logic.{⊎-elim}
 use Rattle.number.proofs.Reading.{told, many-length}
@@ -23,20 +26,20 @@ use Rattle.wiresize.proofs.Variants.{clash, union-none, VariantsLeft, v
 use Rattle.wiresize.proofs.Measure.{field-in-body}
 
 abbrev Inv-loop : compute-union-wire-size-lts.InvT-loop
-Inv-loop image starts frame rows at working count first extremes here₀ over₀ left fields after total₀ more₀ here over total more = (over ≡ false) × FieldsLeft image (frame .names) rows working fields after more here total
+Inv-loop image starts frame rows at working count first extremes here₀ over₀ by₀ left fields after total₀ more₀ here over by total more = (over ≡ false) × FieldsLeft image (frame .names) rows working fields after more here total
 
 abbrev μ-loop : compute-union-wire-size-lts.MeasureT-loop
-μ-loop image starts frame rows at working count first extremes here₀ over₀ left fields after total₀ more₀ here over total more = more
+μ-loop image starts frame rows at working count first extremes here₀ over₀ by₀ left fields after total₀ more₀ here over by total more = more
 
 abbrev Inv-variants : compute-union-wire-size-lts.InvT-variants
-Inv-variants image starts frame rows at working count first extremes₀ here₀ over₀ left₀ extremes here over left = (over ≡ false) × VariantsLeft image (frame .names) rows working count first left here extremes
+Inv-variants image starts frame rows at working count first extremes₀ here₀ over₀ by₀ left₀ extremes here over by left = (over ≡ false) × VariantsLeft image (frame .names) rows working count first left here extremes
 
 abbrev μ-variants : compute-union-wire-size-lts.MeasureT-variants
-μ-variants image starts frame rows at working count first extremes₀ here₀ over₀ left₀ extremes here over left = left
+μ-variants image starts frame rows at working count first extremes₀ here₀ over₀ by₀ left₀ extremes here over by left = left
 
 module _ (t : ℕ) where
   abbrev env : compute-union-wire-size-lts.Claims
-  env = (read-below-reads.Asked, read-below-reads.Learnt, empty-total-reads.Asked, empty-total-reads.Learnt, compute-type-wire-size-below t, compute-type-wire-size.Post, with-field-reads.Asked, with-field-reads.Learnt, total-size-reads.Asked, total-size-reads.Learnt, widen-reads.Asked, widen-reads.Learnt, tag-reads.Asked, tag-reads.Learnt)
+  env = (read-below-reads.Asked, read-below-reads.Learnt, empty-total-reads.Asked, empty-total-reads.Learnt, compute-type-wire-size-below t, compute-type-wire-size.Post, with-field-reads.Asked, with-field-reads.Learnt, stopped-by-reads.Asked, stopped-by-reads.Learnt, total-size-reads.Asked, total-size-reads.Learnt, widen-reads.Asked, widen-reads.Learnt, tag-reads.Asked, tag-reads.Learnt)
 
   read-below-requires : compute-union-wire-size-lts.Need-read-below-requires env (compute-union-wire-size-at t) compute-union-wire-size.Post Inv-loop μ-loop Inv-variants μ-variants
   read-below-requires c κs = search needs
@@ -84,6 +87,9 @@ module _ (t : ℕ) where
   with-field-requires : compute-union-wire-size-lts.Need-with-field-requires env (compute-union-wire-size-at t) compute-union-wire-size.Post Inv-loop μ-loop Inv-variants μ-variants
   with-field-requires c κs = total-runs _ _ _ _ _ _ (c .before .before .loop .inv .1)
 
+  stopped-by-requires : compute-union-wire-size-lts.Need-stopped-by-requires env (compute-union-wire-size-at t) compute-union-wire-size.Post Inv-loop μ-loop Inv-variants μ-variants
+  stopped-by-requires c κs = search needs
+
   sub-more : compute-union-wire-size-lts.Need-sub-more env (compute-union-wire-size-at t) compute-union-wire-size.Post Inv-loop μ-loop Inv-variants μ-variants
   sub-more c = omega arith
 
@@ -115,7 +121,8 @@ module _ (t : ℕ) where
             ⊎-elim
             (λ w. absurd (clash (c .if3 .taken) (w .2) (c .before .before .variants .inv .0)))
             (λ w.
-            variant-over _ _ _ _ _ _ (c .before .before .variants .inv .1) (w .0 .taken) (told (w .1 .ensures) (w .3 .given .1))
+            ap (λ (o : Operation). Worked.Over o) (w .15 ∙ w .12 .ensures)
+            ∙ variant-over _ _ _ _ _ _ (c .before .before .variants .inv .1) (w .0 .taken) (told (w .1 .ensures) (w .3 .given .1)) _
             (field-over _ _ _ _ _ _ (w .6 .inv .1) (w .7 .taken) _ (w .8 .ensures) (w .9 .ensures) (not-true _ (w .11 .taken))) vs end (variants-behind _ _ _ (told (c .before .before .before .before .before .before .before .read-below .ensures) (c .before .before .before .before .before .count .given .1)) q) st H)
             (c .before .variants-test .came);
       }
@@ -129,9 +136,9 @@ module _ (t : ℕ) where
         worked = λ vs end q st H.
             ⊎-elim
             (λ w. variants-end _ _ _ _ _ _ (c .before .before .before .variants .inv .1) (pos-of-ne-zero (c .before .before .before .before .if1 .left)) (w .0 .left) (c .tag .ensures) vs end (variants-behind _ _ _ (told (c .before .before .before .before .before .before .before .before .read-below .ensures) (c .before .before .before .before .before .before .count .given .1)) q) st H)
-            (λ w. absurd (clash refl (sym (w .13)) (c .before .if3 .left)))
+            (λ w. absurd (clash refl (sym (w .14)) (c .before .if3 .left)))
             (c .before .before .variants-test .came);
       }
 
   pub spec : {M : Type 1} → compute-union-wire-size-lts.Closed env (compute-union-wire-size-at t) compute-union-wire-size.Post M
-  spec = compute-union-wire-size-lts.spec env (compute-union-wire-size-at t) compute-union-wire-size.Post Inv-loop μ-loop Inv-variants μ-variants read-below-requires enum-known-count enum-told returns returns-2 variants-holds read-below-requires-2 enum-known-fields enum-told-2 returns-3 empty-total-requires loop-holds compute-type-wire-size-requires with-field-requires sub-more loop-less loop-again total-size-requires widen-requires sub-left variants-less variants-again returns-4 tag-requires returns-5
+  spec = compute-union-wire-size-lts.spec env (compute-union-wire-size-at t) compute-union-wire-size.Post Inv-loop μ-loop Inv-variants μ-variants read-below-requires enum-known-count enum-told returns returns-2 variants-holds read-below-requires-2 enum-known-fields enum-told-2 returns-3 empty-total-requires loop-holds compute-type-wire-size-requires with-field-requires stopped-by-requires sub-more loop-less loop-again total-size-requires widen-requires sub-left variants-less variants-again returns-4 tag-requires returns-5
