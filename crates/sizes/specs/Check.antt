@@ -51,7 +51,7 @@ ownSize S st i = bodySize (nameSize S st (inserted i nothing)) (contentOf S i)
 unfoldable pub store : (slot : ℕ) → Size → State → State
 store i s st j = cond (eqb j i) (some s) (st j)
 
--- the sizes stored, or the declared slot being worked when a number passed the limit, and what made it
+-- the sizes stored, or what made the first number that passed the limit, and the declared slot being worked
 pub data Checked : Type 0 where
   accepted : State → Checked
   refused : Operation → (slot : ℕ) → Checked

@@ -152,36 +152,43 @@ others =
     ∷ refuses (declaring (1 ∷ []) (of (fixedArray u8 (2 ^ 60) ∷ []) ∷ of (slot 0 ∷ []) ∷ [])) 14 1
     ∷ []
 
--- the first step that passes the limit: fields left to right, each added once worked; a Result's err side before it is added;
--- a union's 8 last
+pub others-hold : answered others ≡ said others
+unfolding checkSizes turns turn onward ownSize bodySize storing store brought nameSize nameWithin nameRule contentSize contentOf contentIn slotOf typeSize leafSize wrapSize then limited primitiveBits semanticBits varintEnd zigZagEnd encodedSize fieldSize addFields addVariants unionSize tableOf rowsFrom slotRow enumBitsAt flagsBytesAt enumBits flagsBytes ordinalBits bitLength digits highest bytesTo has
+others-hold = refl
+
+-- ## The first step that passes the limit
+
+-- within it, and two of them are not
 abbrev big : Tree
 big = fixedArray u8 (2 ^ 60 - 1)
 
+-- the most that is within it
 abbrev most : Tree
 most = fixedArray bool (2 ^ 63 - 1)
 
+-- a product that passes it
 abbrev over : Tree
 over = fixedArray u8 (2 ^ 60)
 
 abbrev pub firstSteps : List Line
 firstSteps =
+    -- fields left to right, each added once it is worked out
     refuses (all (of (big ∷ big ∷ over ∷ []) ∷ [])) 11 0
     ∷ refuses (all (of (big ∷ over ∷ big ∷ []) ∷ [])) 14 0
+    -- a Result's ok side, its err side, then its bit
     ∷ refuses (all (of (pair resultOf most over ∷ []) ∷ [])) 14 0
     ∷ refuses (all (of (pair resultOf (wrap optional most) over ∷ []) ∷ [])) 11 0
     ∷ refuses (all (of (pair resultOf most u8 ∷ []) ∷ [])) 11 0
+    -- a union's variants, then its 8
     ∷ refuses (all (a-union (each (most ∷ []) ∷ each (over ∷ []) ∷ []) ∷ [])) 14 0
     ∷ refuses (all (a-union (each (most ∷ []) ∷ []) ∷ [])) 11 0
+    -- a sum that is within, and a product of it that is not
     ∷ refuses (all (of (wrap vec2 (wrap optional (fixedArray bool (2 ^ 62))) ∷ []) ∷ [])) 14 0
     ∷ []
 
 pub first-steps-hold : answered firstSteps ≡ said firstSteps
 unfolding checkSizes turns turn onward ownSize bodySize storing store brought nameSize nameWithin nameRule contentSize contentOf contentIn slotOf typeSize leafSize wrapSize then limited primitiveBits semanticBits varintEnd zigZagEnd encodedSize fieldSize addFields addVariants unionSize tableOf rowsFrom slotRow
 first-steps-hold = refl
-
-pub others-hold : answered others ≡ said others
-unfolding checkSizes turns turn onward ownSize bodySize storing store brought nameSize nameWithin nameRule contentSize contentOf contentIn slotOf typeSize leafSize wrapSize then limited primitiveBits semanticBits varintEnd zigZagEnd encodedSize fieldSize addFields addVariants unionSize tableOf rowsFrom slotRow enumBitsAt flagsBytesAt enumBits flagsBytes ordinalBits bitLength digits highest bytesTo has
-others-hold = refl
 
 -- ## The provisos are needed
 

@@ -53,7 +53,7 @@ passes (Fixed b) = ltb limit b
 passes (Bounded l h) = ltb limit l || ltb limit h
 passes (Open l) = ltb limit l
 
--- a size just made: none of its numbers may pass the limit
+-- a size just made, and by what: none of its numbers may pass the limit
 unfoldable pub limited : Operation → Size → Worked
 limited o s = cond (passes s) (Over o) (Sized s)
 
@@ -69,7 +69,7 @@ abbrev pub refusalOf : Operation → ℕ
 refusalOf Sum = 11
 refusalOf Product = 14
 
--- what is made of a size that was worked out
+-- what is made of a size that was worked out; what passed the limit before stays
 unfoldable pub then : Worked → (Size → Worked) → Worked
 then (Sized s) next = next s
 then (Over o) next = Over o

@@ -5,7 +5,7 @@
 use std::sync::OnceLock;
 
 use super::bounds::{add, Boundary};
-use super::first::{by_product, by_sum, first_steps};
+use super::first::{by_product, by_sum, first_steps, PRODUCT, SUM};
 use super::Emit;
 use crate::format::SIZE_LIMIT;
 use crate::model::{
@@ -44,37 +44,26 @@ pub fn edges(random: &mut Random, emit: Emit<'_>) {
 /// size that the element may have, none where it does not count, and the
 /// refusal's number above.
 struct Operation {
+    number: u64,
     what: &'static str,
     least: Option<u64>,
     most: Option<u64>,
     make: fn(Tree) -> Slot,
-    number: u64,
 }
 
-const fn sum(
+const fn operation(
+    number: u64,
     what: &'static str,
     least: Option<u64>,
     most: Option<u64>,
     make: fn(Tree) -> Slot,
 ) -> Operation {
     Operation {
+        number,
         what,
         least,
         most,
         make,
-        number: 11,
-    }
-}
-
-const fn product(
-    what: &'static str,
-    least: Option<u64>,
-    most: Option<u64>,
-    make: fn(Tree) -> Slot,
-) -> Operation {
-    Operation {
-        number: 14,
-        ..sum(what, least, most, make)
     }
 }
 
@@ -87,54 +76,77 @@ const fn part(factor: u64) -> Option<u64> {
 }
 
 const OPERATIONS: &[Operation] = &[
-    sum("field alone", None, None, one),
-    sum("sum", below(1), below(1), |part| of(&[part, BOOL])),
-    sum("sum after", below(1), below(1), |part| of(&[BOOL, part])),
-    sum("sum of itself", part(2), part(2), |part| {
+    operation(SUM, "field alone", None, None, one),
+    operation(SUM, "sum", below(1), below(1), |part| of(&[part, BOOL])),
+    operation(SUM, "sum after", below(1), below(1), |part| {
+        of(&[BOOL, part])
+    }),
+    operation(SUM, "sum of itself", part(2), part(2), |part| {
         of(&[part.clone(), part])
     }),
-    sum("sum with Varint", below(8), below(24), |part| {
+    operation(SUM, "sum with Varint", below(8), below(24), |part| {
         encoded(part, 1, Tree::Primitive(2))
     }),
-    sum("sum with ZigZag", below(8), below(80), |part| {
+    operation(SUM, "sum with ZigZag", below(8), below(80), |part| {
         encoded(part, 2, BOOL)
     }),
-    sum("Optional", None, below(1), |part| one(wrap(OPTIONAL, part))),
-    sum("Result", below(1), below(1), |part| {
+    operation(SUM, "Optional", None, below(1), |part| {
+        one(wrap(OPTIONAL, part))
+    }),
+    operation(SUM, "Result", below(1), below(1), |part| {
         one(pair(RESULT, part.clone(), part))
     }),
-    sum("Result ok", None, below(1), |part| {
+    operation(SUM, "Result ok", None, below(1), |part| {
         one(pair(RESULT, part, BOOL))
     }),
-    sum("Result err", None, below(1), |part| {
+    operation(SUM, "Result err", None, below(1), |part| {
         one(pair(RESULT, BOOL, part))
     }),
-    product("fixed array of 3", part(3), None, |part| {
+    operation(PRODUCT, "fixed array of 3", part(3), None, |part| {
         one(fixed(part, 3))
     }),
-    product("fixed array of 0", None, None, |part| one(fixed(part, 0))),
-    product("Vec2", part(2), part(2), |part| one(wrap(VEC2, part))),
-    product("Vec3", part(3), part(3), |part| one(wrap(11, part))),
-    product("Vec4", part(4), part(4), |part| one(wrap(12, part))),
-    product("Quat", part(4), part(4), |part| one(wrap(13, part))),
-    product("Mat3", part(9), part(9), |part| one(wrap(14, part))),
-    product("Mat4", part(16), part(16), |part| one(wrap(15, part))),
-    product("Optional Vec2", part(2), part(2), |part| {
+    operation(PRODUCT, "fixed array of 0", None, None, |part| {
+        one(fixed(part, 0))
+    }),
+    operation(PRODUCT, "Vec2", part(2), part(2), |part| {
+        one(wrap(VEC2, part))
+    }),
+    operation(PRODUCT, "Vec3", part(3), part(3), |part| {
+        one(wrap(11, part))
+    }),
+    operation(PRODUCT, "Vec4", part(4), part(4), |part| {
+        one(wrap(12, part))
+    }),
+    operation(PRODUCT, "Quat", part(4), part(4), |part| {
+        one(wrap(13, part))
+    }),
+    operation(PRODUCT, "Mat3", part(9), part(9), |part| {
+        one(wrap(14, part))
+    }),
+    operation(PRODUCT, "Mat4", part(16), part(16), |part| {
+        one(wrap(15, part))
+    }),
+    operation(PRODUCT, "Optional Vec2", part(2), part(2), |part| {
         one(wrap(OPTIONAL, wrap(VEC2, part)))
     }),
-    product("Vec2 Optional", None, Some(SIZE_LIMIT / 2 - 1), |part| {
-        one(wrap(VEC2, wrap(OPTIONAL, part)))
-    }),
-    sum("variant", below(8), below(8), |part| {
+    operation(
+        PRODUCT,
+        "Vec2 Optional",
+        None,
+        Some(SIZE_LIMIT / 2 - 1),
+        |part| one(wrap(VEC2, wrap(OPTIONAL, part))),
+    ),
+    operation(SUM, "variant", below(8), below(8), |part| {
         union(vec![vec![field(0, part)]])
     }),
-    sum("variant beside an empty one", None, below(8), |part| {
+    operation(SUM, "variant beside an empty one", None, below(8), |part| {
         union(vec![vec![], vec![field(0, part)]])
     }),
-    sum("sum in a variant", below(8), below(8), |part| {
+    operation(SUM, "sum in a variant", below(8), below(8), |part| {
         union(vec![vec![field(0, part), field(0, Tree::Primitive(13))]])
     }),
-    sum(
+    operation(
+        SUM,
         "running total of a variant",
         below(1),
         below(8 + 1),
@@ -307,7 +319,7 @@ fn edge(all: &mut Vec<Boundary>, operation: &Operation, form: Form, around: Arou
 
 /// Elements that pass the limit themselves, before anything is made of them.
 fn past_before(all: &mut Vec<Boundary>, operation: &Operation, around: Around) {
-    for (element, number) in [(by_sum(), 11), (by_product(), 14)] {
+    for (element, number) in [(by_sum(), SUM), (by_product(), PRODUCT)] {
         let what = format!("{} of {element:?} below {around:?}", operation.what);
         let image = schema((operation.make)(element), around, Form::Array, 0).bytes();
         add(all, what, image, Some((number, around.place())));
@@ -321,7 +333,7 @@ fn running_totals(all: &mut Vec<Boundary>) {
     let orders = [
         ("open field first", [&open, &large, &large], None),
         ("open field between", [&large, &open, &large], None),
-        ("open field last", [&large, &large, &open], Some((11, 0))),
+        ("open field last", [&large, &large, &open], Some((SUM, 0))),
     ];
     for (what, trees, refused) in orders {
         let trees: Vec<Tree> = trees.into_iter().cloned().collect();

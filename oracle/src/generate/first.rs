@@ -8,8 +8,8 @@ use crate::model::{
     RESULT, U8, VEC2,
 };
 
-const SUM: u64 = 11;
-const PRODUCT: u64 = 14;
+pub const SUM: u64 = 11;
+pub const PRODUCT: u64 = 14;
 
 /// The greatest size that there is.
 fn most() -> Tree {
