@@ -17,7 +17,7 @@ fn importer_answers_each_boundary() {
 
 #[test]
 fn sizes_are_refused_one_bit_above_the_limit() {
-    assert!(all_edges().len() > 1_000);
+    assert!(all_edges().len() > 2_500);
     for edge in all_edges() {
         let answer = Whole::sizes_of(&edge.image).sizes_answer(PROGRAM_PLACES.sizes);
         let refused = match answer.expect("a short check") {

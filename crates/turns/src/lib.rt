@@ -22,13 +22,13 @@ pub enum Sizing {
     Refused(u8, u64),
 }
 
-// Whether a place of the declaration list was passed, or what made the first number that passed the limit.
+// On to the next place of the declaration list, or what made the first number above the limit.
 pub enum Taken {
     On,
     Over(Operation),
 }
 
-// Whether all places were passed, or what made the first number that passed the limit, and at which slot.
+// All places were gone through, or what made the first number above the limit, and at which slot's turn.
 pub enum Passed {
     All,
     Over(Operation, u64),

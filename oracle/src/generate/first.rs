@@ -21,7 +21,7 @@ fn big() -> Tree {
     fixed(U8, (1 << 60) - 1)
 }
 
-/// Half of that: twice it is accepted, but not twice an Optional of it.
+/// Half the greatest: twice it is accepted, but not twice an Optional of it.
 fn half() -> Tree {
     fixed(BOOL, SIZE_LIMIT / 2)
 }
@@ -119,7 +119,8 @@ pub fn first_steps(all: &mut Vec<Boundary>) {
     turns(all);
 }
 
-/// What stands around a name that is refused; the name is worked first.
+/// What stands around a name that is refused: nothing in front of it passes
+/// the limit, and what comes after it would.
 const AROUND: [fn(Tree) -> Slot; 8] = [
     |name| message(0, fields(vec![name])),
     |name| message(0, fields(vec![most(), name, by_product()])),

@@ -1,5 +1,4 @@
 use Rattle.measures.proofs.Cutting.{cut-fixed, cut-bounded, cut-open}
-use Rattle.sizes.specs.declared.Operation.{Operation}
 use borrow.Author.Needs.{needs}
 use Rattle.measures.proofs.multiply_wire_size.Statement.{statement}
 use Rattle.measures.proofs.multiply_wire_size.Tie as tie
@@ -18,6 +17,6 @@ multiply-wire-size-spec =
     (λ c. search needs)
     (λ c κs. search needs)
     (λ c κs. search needs)
-    (λ c. simp (c .within-limit .ensures, c .before .product .ensures, c .before .before .before .size .given .1, cut-fixed Operation.Product))
-    (λ c. simp (c .within-limit2 .ensures, c .before .product3 .ensures, c .before .before .product2 .ensures, c .before .before .before .before .size2 .given .1, cut-bounded Operation.Product))
-    (λ c. simp (c .within-limit3 .ensures, c .before .product4 .ensures, c .before .before .before .size3 .given .1, cut-open Operation.Product)))
+    (λ c. simp (c .within-limit .ensures, c .before .product .ensures, c .before .before .before .size .given .1, cut-fixed))
+    (λ c. simp (c .within-limit2 .ensures, c .before .product3 .ensures, c .before .before .product2 .ensures, c .before .before .before .before .size2 .given .1, cut-bounded))
+    (λ c. simp (c .within-limit3 .ensures, c .before .product4 .ensures, c .before .before .before .size3 .given .1, cut-open)))
