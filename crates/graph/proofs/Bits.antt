@@ -1,12 +1,12 @@
 -- The bits of a word, and where a place of a row stands. Assumes nothing.
 use Prim.Native.Nat.{ℕ, zero, suc, _+_, _*_, _-_, _/_, _%_, _^_, _<_}
-use native.Mathlib.Nat.{mod-lt, div-self, div-eq-of-lt, mul-div-cancel, mul-mod-left, one-mul, pow-suc, zero-lt-suc}
+use native.Mathlib.Nat.{mod-lt, div-self, div-lt-iff-lt-mul, pow-succ', div-eq-of-lt, mul-div-cancel, mul-mod-left, one-mul, pow-suc, zero-lt-suc}
 use native.Mathlib.Decide.{decLt, ℕ-discrete}
 use native.Mathlib.Omega.{arith}
 use mathlib.Core.Path.{_≡_, refl, sym, ap, _∙_}
 use mathlib.Core.Logic.{by-cases}
 use mathlib.Core.Bool.{Bool, true, false, _&&_, _||_, and-false}
-use borrow.Author.Tests.{eq-eqb, ne-eqb}
+use borrow.Author.Tests.{eq-eqb, ne-eqb, eqb-false}
 use lib.Bits.{bitOr, or-shr, or-mod}
 use lib.Dec.{eqb}
 use lib.Pow.{pow-pos, pow-lt, pow-add, shl-exact}
@@ -40,6 +40,16 @@ bit-power k j =
 -- the word that the code makes for bit k
 pub bit-shifted : (k j : ℕ) → k < 64 → bit (1 * 2 ^ k % 2 ^ 64) j ≡ eqb j k
 bit-shifted k j h = rw (shl-exact {a = 1} 1 k 64 (omega arith) (omega arith), one-mul) (bit-power k j)
+
+-- a number without a bit is 0
+pub no-bits : (k w : ℕ) → w < 2 ^ k → ((j : ℕ) → j < k → bit w j ≡ false) → w ≡ 0
+unfolding bit
+no-bits zero w l h = omega arith
+no-bits (suc k) w l h =
+    let q : w / 2 ^ k < 2 = div-lt-iff-lt-mul (pow-pos k) .1 (rw pow-succ' at l) in
+    let n : w / 2 ^ k % 2 ≡ 1 → ⊥ = eqb-false _ _ (h k (omega arith)) in
+    let z : w / 2 ^ k < 1 = by-cases (decLt (w / 2 ^ k) 1) (λ d. d) (λ d. absurd (n (omega arith))) in
+    no-bits k w (rw one-mul at (div-lt-iff-lt-mul (pow-pos k) .0 z)) (λ j m. h j (omega arith))
 
 -- two places of a row are one where word and bit are
 pub same-place : (t : Bool) (y b : ℕ) → (eqb (y / 64) (b / 64) && (t && eqb (y % 64) (b % 64))) ≡ (t && eqb y b)

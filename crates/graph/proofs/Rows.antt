@@ -15,8 +15,8 @@ use lib.Dec.{ltb, eqb}
 use Rattle.graph.specs.declared.Lowest.{Lowest}
 use Rattle.graph.specs.Loops.{lowest-same}
 use Rattle.graph.specs.Ways.{Leads, via, lowest, lowestLooped}
-use Rattle.graph.specs.Table.{bit, bit-zero, grid, Grown, Marked, Joined, Round, Closed}
-use Rattle.graph.proofs.Bits.{bit-or, bit-shifted, same-place}
+use Rattle.graph.specs.Table.{bit, bit-zero, grid, Grown, Marked, Joined, Round, Closed, Unmarked}
+use Rattle.graph.proofs.Bits.{bit-or, bit-shifted, no-bits, same-place}
 
 ltb-next : (b j : ℕ) → ltb b (j + 1) ≡ (ltb b j || eqb b j)
 ltb-next b j =
@@ -40,6 +40,10 @@ column-stays : (y p q : Bool) → (y || (p && (y && q))) ≡ y
 column-stays true p q = refl
 column-stays false true q = refl
 column-stays false false q = refl
+
+same-either : (t x : Bool) → cond t x x ≡ x
+same-either true x = refl
+same-either false x = refl
 
 pub grown-none : {m : List ℕ} {more : Leads} → length m ≡ 4096 → ((a b : ℕ) → a < 512 → b < 512 → more a b ≡ false) → Grown m more m
 grown-none len h = record { long = len; places = λ a b p q. rw (h a b p q) (sym (or-false _)) }
@@ -101,9 +105,16 @@ module _ (m : List ℕ) (a b : ℕ) (len : length m ≡ 4096) where
   pub unmarked : 512 ≤ b → Marked m a b m
   unmarked h = grown-none len (λ x y p q. rw (ne-eqb y b (λ e. omega arith)) (and-false (eqb x a)))
 
-pub empty : (m : List ℕ) (a : ℕ) → ((j : ℕ) → j < 8 → getD m (a * 8 + j) 0 ≡ 0) → (b : ℕ) → b < 512 → grid m a b ≡ false
+pub empty : (m : List ℕ) (a : ℕ) → ((j : ℕ) → j < 8 → getD m (a * 8 + j) 0 ≡ 0) → Unmarked m a
 unfolding grid
 empty m a h b l = rw (h (b / 64) (omega arith)) (bit-zero (b % 64))
+
+-- a word that is not 0 has a mark
+pub marked-word : (m : List ℕ) (a j : ℕ) → j < 8 → getD m (a * 8 + j) 0 < 2 ^ 64 → Unmarked m a → getD m (a * 8 + j) 0 ≡ 0
+unfolding grid
+marked-word m a j h l u =
+    no-bits 64 _ l
+    (λ i k. let d : (j * 64 + i) / 64 ≡ j = omega arith in let e : (j * 64 + i) % 64 ≡ i = omega arith in rw (d, e) at (u (j * 64 + i) (omega arith)))
 
 -- row i has taken in the words of row k below j
 abbrev pub Words : List ℕ → (i k j : ℕ) → List ℕ → Type 0
@@ -151,23 +162,25 @@ round-none m k n len h = grown-none len (λ a b p q. rw (h b q, and-false (grid 
 
 pub closed-start : (m : List ℕ) (n : ℕ) → length m ≡ 4096 → Closed m 0 n m
 unfolding via
-closed-start m n len = record { long = len; ways = λ a b p q. refl }
+closed-start m n len = record { long = len; places = λ a b p q. sym (same-either (ltb a n) (grid m a b)) }
 
-pub closed-on : (m₀ : List ℕ) (k n : ℕ) (m m′ : List ℕ) → k < n → n ≤ 512 → Closed m₀ k n m → Round m k n m′
-    → Closed m₀ (k + 1) n m′
-unfolding via
-closed-on m₀ k n m m′ l h c r =
-    record {
-      long = r .long;
-      ways = λ a b p q.
-          rw add-one
-          (r .places a b (omega arith) (omega arith)
-          ∙ rw (lt-ltb a n p, c .ways a b p q, c .ways a k p l, c .ways k b l q));
-    }
+module _ (m₀ : List ℕ) (k n : ℕ) (m : List ℕ) (h : n ≤ 512) (c : Closed m₀ k n m) where
+  pub ways : (a b : ℕ) → a < n → b < 512 → grid m a b ≡ via (grid m₀) k a b
+  ways a b p q = c .places a b (omega arith) q ∙ rw (lt-ltb a n p)
 
-pub lowest-is : (m m′ : List ℕ) (n : ℕ) (r : Lowest) → Closed m n n m′ → r ≡ lowest (λ i. grid m′ i i) n 0
-    → r ≡ lowestLooped (grid m) n
-lowest-is m m′ n r c e = e ∙ lowest-same _ _ n 0 (λ j l. c .ways j j (omega arith) (omega arith))
+  pub closed-on : (m′ : List ℕ) → k < n → Round m k n m′ → Closed m₀ (k + 1) n m′
+  unfolding via
+  closed-on m′ l r =
+      record {
+        long = r .long;
+        places = λ a b p q. r .places a b p q
+            ∙ by-cases (decLt a n)
+            (λ t. rw (add-one, lt-ltb a n t, ways a b t q, ways a k t (omega arith), ways k b l q))
+            (λ t. rw (le-ltb a n (omega arith)) (or-false (grid m a b) ∙ c .places a b p q ∙ rw (le-ltb a n (omega arith))));
+      }
+
+  pub lowest-is : (r : Lowest) → k ≡ n → r ≡ lowest (λ i. grid m i i) n 0 → r ≡ lowestLooped (grid m₀) n
+  lowest-is r z e = e ∙ lowest-same _ _ n 0 (λ j l. ways j j (omega arith) (omega arith) ∙ rw z)
 
 -- the search for the lowest number goes on at i
 module _ (p : ℕ → Bool) (n i : ℕ) where

@@ -21,7 +21,7 @@ through : (x y z : Bool) → y ≡ true → z ≡ true → (x || (y && z)) ≡ t
 through true y z h k = refl
 through false y z h k = rw (h, k)
 
-is-false : (x : Bool) → (x ≡ true → ⊥) → x ≡ false
+pub is-false : (x : Bool) → (x ≡ true → ⊥) → x ≡ false
 is-false true h = absurd (h refl)
 is-false false h = refl
 
@@ -55,6 +55,33 @@ pub lowest-same : (p q : ℕ → Bool) (n i : ℕ) → ((j : ℕ) → j < i + n 
 unfolding lowest
 lowest-same p q zero i h = refl
 lowest-same p q (suc n) i h = rw (h i (omega arith), lowest-same p q n (suc i) (λ j l. h j (omega arith)))
+
+-- the lowest number with P, where a test tells P, and only numbers below n have it
+module _ (P : ℕ → Type 0) (p : ℕ → Bool) (n : ℕ) (told : (j : ℕ) → P j → (p j ≡ true) × (j < n)) (holds : (j : ℕ) → p j ≡ true → P j) where
+  pub lowest-has : {x : ℕ} → lowest p n 0 ≡ Lowest.At x → P x × ((j : ℕ) → j < x → P j → ⊥)
+  lowest-has h =
+      let r = lowest-at p n 0 _ h in
+      (holds _ (r .0), λ j l q. not-both _ (told j q .0) (r .1 j (omega arith) l))
+
+  pub none-has : lowest p n 0 ≡ Lowest.Nowhere → (j : ℕ) → P j → ⊥
+  none-has h j q = not-both _ (told j q .0) (lowest-none p n 0 h j (omega arith) (omega (arith, told j q .1)))
+
+  pub has-lowest : (x : ℕ) → P x → ((j : ℕ) → j < x → P j → ⊥) → lowest p n 0 ≡ Lowest.At x
+  has-lowest x q l = go (lowest p n 0) refl
+    where
+      go : (r : Lowest) → lowest p n 0 ≡ r → r ≡ Lowest.At x
+      go (Lowest.At y) h =
+          let r = lowest-has h in
+          by-cases (decLt x y) (λ g. absurd (r .1 x g q))
+          (λ g. by-cases (decLt y x) (λ f. absurd (l y f (r .0))) (λ f. ap Lowest.At (omega arith)))
+      go Lowest.Nowhere h = absurd (none-has h x q)
+
+  pub has-none : ((j : ℕ) → P j → ⊥) → lowest p n 0 ≡ Lowest.Nowhere
+  has-none l = go (lowest p n 0) refl
+    where
+      go : (r : Lowest) → lowest p n 0 ≡ r → r ≡ Lowest.Nowhere
+      go (Lowest.At y) h = absurd (l y (lowest-has h .0))
+      go Lowest.Nowhere h = refl
 
 -- what does not concern the numbers below n does not change the answer
 module _ (e e′ : Leads) (n : ℕ) (same : (a b : ℕ) → a < n → b < n → e a b ≡ e′ a b) where
@@ -115,24 +142,18 @@ module _ (e : Leads) where
     path-via (step h) = via-step n _ _ h
     path-via (onto h p) = via-join n _ _ _ (starts p) (via-step n _ _ h) (path-via p)
 
+    back : (j : ℕ) → Path e j j → (via e n j j ≡ true) × (j < n)
+    back j p = (path-via p, starts p)
+
     -- the answer is on a loop, and no lower number is
     pub at-lowest : {x : ℕ} → lowestLooped e n ≡ Lowest.At x → Path e x x × ((j : ℕ) → j < x → Path e j j → ⊥)
-    at-lowest h =
-        let r = lowest-at _ n 0 _ h in
-        (via-path n _ _ (r .0), λ j l p. not-both _ (path-via p) (r .1 j (omega arith) l))
+    at-lowest = lowest-has (λ i. Path e i i) _ n back (λ j. via-path n j j)
 
     pub at-none : lowestLooped e n ≡ Lowest.Nowhere → (j : ℕ) → Path e j j → ⊥
-    at-none h j p = not-both _ (path-via p) (lowest-none _ n 0 h j (omega arith) (omega (arith, starts p)))
+    at-none = none-has (λ i. Path e i i) _ n back (λ j. via-path n j j)
 
     pub is-lowest : (x : ℕ) → Path e x x → ((j : ℕ) → j < x → Path e j j → ⊥) → lowestLooped e n ≡ Lowest.At x
-    is-lowest x p l = go (lowestLooped e n) refl
-      where
-        go : (r : Lowest) → lowestLooped e n ≡ r → r ≡ Lowest.At x
-        go (Lowest.At y) h =
-            let r = at-lowest h in
-            by-cases (decLt x y) (λ g. absurd (r .1 x g p))
-            (λ g. by-cases (decLt y x) (λ f. absurd (l y f (r .0))) (λ f. ap Lowest.At (omega arith)))
-        go Lowest.Nowhere h = absurd (at-none h x p)
+    is-lowest = has-lowest (λ i. Path e i i) _ n back (λ j. via-path n j j)
 
 -- how much the places of a list that are not marked weigh
 unfoldable pub weight : List Bool → (ℕ → ℕ) → ℕ

@@ -3,7 +3,7 @@ use Prim.Native.Nat.{ℕ, zero, suc, _+_, _*_, _/_, _%_, _^_, _<_}
 use native.Mathlib.Nat.{zero-div}
 use mathlib.Core.Path.{_≡_, refl}
 use mathlib.Core.List.{List}
-use mathlib.Core.Bool.{Bool, false, _&&_, _||_}
+use mathlib.Core.Bool.{Bool, false, cond, _&&_, _||_}
 use lib.ListN.{length, getD, replicate}
 use lib.Dec.{eqb, ltb}
 use Rattle.graph.specs.Ways.{Leads, via}
@@ -33,10 +33,14 @@ Joined m i k m′ = Grown m (λ a b. eqb a i && grid m k b) m′
 abbrev pub Round : List ℕ → (k n : ℕ) → List ℕ → Type 0
 Round m k n m′ = Grown m (λ a b. ltb a n && (grid m a k && grid m k b)) m′
 
--- below n, the places are the ways through numbers below k
+-- the rows below n have the ways through numbers below k; the others are as they were
 pub record Closed (before : List ℕ) (k n : ℕ) (after : List ℕ) : Type 0 where
   pub long : length after ≡ 4096
-  pub ways : (a b : ℕ) → a < n → b < n → grid after a b ≡ via (grid before) k a b
+  pub places : (a b : ℕ) → a < 512 → b < 512 → grid after a b ≡ cond (ltb a n) (via (grid before) k a b) (grid before a b)
+
+-- is each place of a row unmarked
+abbrev pub Unmarked : List ℕ → (a : ℕ) → Type 0
+Unmarked m a = (b : ℕ) → b < 512 → grid m a b ≡ false
 
 zeros-at : (n i : ℕ) → getD (replicate n zero) i zero ≡ zero
 zeros-at zero i = refl

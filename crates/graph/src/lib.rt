@@ -1,10 +1,11 @@
 // Loops of a graph of 512 numbers, held as rows of bits: eight words a row, and place b of row a says that a leads to b.
 ghost use mathlib.Core.Path.{_≡_};
-ghost use mathlib.Core.Bool.{true, false};
-ghost use Prim.Native.Nat.{ℕ, _<_, _≤_};
+ghost use mathlib.Core.Logic.{_↔_};
+ghost use mathlib.Core.Bool.{true};
+ghost use Prim.Native.Nat.{_<_, _≤_};
 ghost use lib.ListN.{length};
 ghost use Rattle.graph.specs.Ways.{lowest, lowestLooped};
-ghost use Rattle.graph.specs.Table.{grid, Marked, Joined, Round, Closed};
+ghost use Rattle.graph.specs.Table.{grid, Marked, Joined, Round, Closed, Unmarked};
 
 pub enum Lowest {
     At(usize),
@@ -29,10 +30,10 @@ pub fn leads(rows: &[u64], a: usize, b: usize) -> bool
     (rows[a * 8 + b / 64] >> (b % 64)) % 2 == 1
 }
 
-// Its caller only leans on the answer `true`.
+// Has a row no mark?
 fn row_is_empty(rows: &[u64], a: usize) -> bool
     requires { ⌜ (length (now rows) ≡ 4096) × (a < 512) ⌝ }
-    ensures { λ r. ⌜ (r ≡ true → (b : ℕ) → b < 512 → grid (now (rows .entry)) a b ≡ false) ⌝ }
+    ensures { λ r. ⌜ ((r ≡ true) ↔ Unmarked (now (rows .entry)) a) ⌝ }
 {
     let mut j: usize = 0;
     while j < 8 {
@@ -101,10 +102,11 @@ fn lowest_mark(rows: &[u64], count: usize) -> Lowest
     Lowest::Nowhere
 }
 
-// The lowest number below `count` that leads back to itself.
+// The lowest number below `count` that leads back to itself. The rows below `count` then have all that their numbers lead to.
 pub fn lowest_on_loop(rows: &mut [u64], count: usize) -> Lowest
     requires { ⌜ (length (now rows) ≡ 4096) × (count ≤ 512) ⌝ }
-    ensures { λ r. ⌜ r ≡ lowestLooped (grid (now (rows .entry))) count ⌝ }
+    ensures answer { λ r. ⌜ r ≡ lowestLooped (grid (now (rows .entry))) count ⌝ }
+    ensures table { λ _. ⌜ Closed (now (rows .entry)) count count (now (rows .exit)) ⌝ }
 {
     close(rows, count);
     lowest_mark(rows, count)

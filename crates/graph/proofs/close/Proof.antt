@@ -26,7 +26,7 @@ close-spec =
     (λ c. omega arith)
     (λ c. let t = c .before .before .before .before in (
       omega arith,
-      closed-on _ _ _ _ _ (t .loop-test .taken) (t .before .before .before .pre .1) (t .before .loop .inv .1)
+      closed-on _ _ _ _ (t .before .before .before .pre .1) (t .before .loop .inv .1) _ (t .loop-test .taken)
           (c .before .before .pass .ensures),
     ))
     (λ c. search needs)

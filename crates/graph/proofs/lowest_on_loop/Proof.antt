@@ -1,4 +1,5 @@
 -- The marks of the closed table are the ways.
+use mathlib.Core.Path.{refl}
 use borrow.Author.Needs.{needs}
 use Rattle.graph.proofs.Rows.{lowest-is}
 use Rattle.graph.proofs.lowest_on_loop.Statement.{statement}
@@ -11,4 +12,4 @@ lowest-on-loop-spec =
     (λ c κs. search needs)
     (λ c κs. search needs)
     (λ c. search needs)
-    (λ c. lowest-is _ _ _ _ (c .before .before .before .before .close .ensures) (c .lowest-mark .ensures)))
+    (λ c. let d = c .before .before .before .before in (lowest-is _ _ _ _ (search needs) (d .close .ensures) _ refl (c .lowest-mark .ensures), d .close .ensures)))

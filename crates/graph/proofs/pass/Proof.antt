@@ -22,7 +22,7 @@ pass-spec =
     μ-loop
     (λ c κs. search needs)
     (λ c. search needs)
-    (λ c. round-none _ _ _ (c .before .before .before .before .pre .0) (c .before .row-is-empty .ensures (c .if1 .taken)))
+    (λ c. round-none _ _ _ (c .before .before .before .before .pre .0) (c .before .row-is-empty .ensures .0 (c .if1 .taken)))
     (λ c. (omega arith, rows-start _ _ (c .before .before .before .before .pre .0)))
     (λ c κs. search needs)
     (λ c κs. search needs)

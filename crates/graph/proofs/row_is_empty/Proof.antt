@@ -2,11 +2,11 @@
 use Prim.Native.Nat.{ℕ, _+_, _*_, _-_, _≤_, _<_}
 use native.Mathlib.Omega.{arith}
 use mathlib.Core.Bool.{false≢true}
-use mathlib.Core.Path.{_≡_}
+use mathlib.Core.Path.{_≡_, refl}
 use borrow.Author.Needs.{needs}
 use borrow.Author.Count.{below-more}
 use lib.ListN.{getD}
-use Rattle.graph.proofs.Rows.{empty}
+use Rattle.graph.proofs.Rows.{empty, marked-word}
 use Rattle.graph.proofs.row_is_empty.Statement.{statement}
 use Rattle.graph.proofs.row_is_empty.Tie as tie
 
@@ -27,8 +27,8 @@ row-is-empty-spec =
     (λ c. omega arith)
     (λ c. omega arith)
     (λ c. search needs)
-    (λ c e. absurd (false≢true e))
+    (λ c. (λ e. absurd (false≢true e), λ u. absurd (c .if1 .taken (marked-word _ _ _ (omega arith) (omega (arith, c .before .shared-slice-known .given (c .before .before .before .before .args .a * 8 + c .before .before .before .loop .j))) u))))
     (λ c. omega arith)
     (λ c. omega arith)
     (λ c. (omega arith, below-more _ _ (c .before .before .before .loop .inv .1) (c .if1 .left)))
-    (λ c e. empty _ _ (λ x l. c .before .loop .inv .1 x (omega arith))))
+    (λ c. (λ e. empty _ _ (λ x l. c .before .loop .inv .1 x (omega arith)), λ u. refl)))

@@ -13,4 +13,4 @@ looped-in-spec =
     (λ c κs. (length-replicate {A = ℕ} 4096 0, c .before .before .before .before .pre))
     (λ c. search needs)
     (λ c κs. (c .before .before .fill-rows .ensures .long, c .before .before .before .before .before .before .before .pre .few))
-    (λ c. lowest-is _ _ _ _ _ _ _ _ (c .before .before .before .before .before .before .before .before .before .pre .few) (c .before .before .before .before .fill-rows .ensures) (c .before .lowest-on-loop .ensures)))
+    (λ c. lowest-is _ _ _ _ _ _ _ _ (c .before .before .before .before .before .before .before .before .before .pre .few) (c .before .before .before .before .fill-rows .ensures) (c .before .lowest-on-loop .ensures .0)))
