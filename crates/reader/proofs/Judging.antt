@@ -16,7 +16,7 @@ use Rattle.tree.specs.declared.Sort.{Sort}
 use Rattle.tree.specs.declared.Sort.the-variants.{Resolved, Expression}
 use Rattle.slot.specs.Slot.{Slot, empty, slotAt}
 use Rattle.graph.specs.declared.Lowest.{Lowest}
-use Rattle.graph.specs.Loops.{lowest-none}
+use Rattle.graph.specs.Loops.{is-false}
 use Rattle.image.specs.Schema.{Schema, slotOf}
 use Rattle.image.specs.Image.{Image, imageOf, schemaIn, frameIn, framed, startsOf, contentsOf, Placed, placedAt, Declared, declaredAt}
 use Rattle.image.specs.declared.Frame.{Frame}
@@ -25,55 +25,14 @@ use Rattle.image.proofs.Framing.{Accepted, accepted, FrontParts, front-parts, d
 use Rattle.image.proofs.Tables.{placed-is, entry}
 use Rattle.loops.specs.Leads.{loopOf, slotsOf, Located}
 use Rattle.loops.specs.Marks.{noneLeads}
-use Rattle.loops.specs.Refusals.{OnLoop, slots-past, not-looped}
+use Rattle.loops.specs.Refusals.{slots-past}
 use Rattle.loops.proofs.Leading.{nothing-looped}
-use Rattle.reader.specs.Reading.{isEmpty, lost, lostName, orRefuse, judged, answered, readingOf, schemaOr, schemaOf, startsOr, startsTable}
+use Rattle.reader.specs.Reading.{isEmpty, lostName, judged, answered, readingOf, schemaOr, schemaOf, startsOr, startsTable}
+use Rattle.reader.specs.Refusals.{Judged}
 use Rattle.reader.specs.Promise.{Seen, Promise, Answered}
 use Rattle.reader.specs.declared.Reading.{Reading}
 use Rattle.reader.proofs.Losing.{slot-at}
-
--- the answer, by what was found
-module _ (S : Schema) (f : Frame) where
-  abbrev Names : Lowest
-  Names = lostName (S .finds) (slotOf S)
-
-  abbrev Loops : Sort → Lowest
-  Loops sort = loopOf sort (S .finds) (slotOf S) (length (S .slots))
-
-  pub refused-7 : (n : ℕ) → Names ≡ Lowest.At n → Reading.Refused 7 n ≡ judged S f
-  unfolding judged
-  refused-7 n e = rw e
-
-  module _ (e : Names ≡ Lowest.Nowhere) where
-    pub refused-8 : (i : ℕ) → Loops Resolved ≡ Lowest.At i → Reading.Refused 8 i ≡ judged S f
-    unfolding judged
-    refused-8 i g = rw (e, g)
-
-    pub refused-9 : (i : ℕ) → Loops Resolved ≡ Lowest.Nowhere → Loops Expression ≡ Lowest.At i → Reading.Refused 9 i ≡ judged S f
-    unfolding judged
-    refused-9 i g h = rw (e, g, h)
-
-    pub none-refused : Loops Resolved ≡ Lowest.Nowhere → Loops Expression ≡ Lowest.Nowhere → Reading.Accepted f ≡ judged S f
-    unfolding judged
-    none-refused g h = rw (e, g, h)
-
-  -- nothing was found where the answer is acceptance
-  pub record Clear (g : Frame) : Type 0 where
-    pub names : Names ≡ Lowest.Nowhere
-    pub newtypes : Loops Resolved ≡ Lowest.Nowhere
-    pub aliases : Loops Expression ≡ Lowest.Nowhere
-    pub frame : f ≡ g
-
-  pub clear : (g : Frame) → judged S f ≡ Reading.Accepted g → Clear g
-  unfolding judged
-  clear g e = go Names refl (Loops Resolved) refl (Loops Expression) refl e
-    where
-      go : (a : Lowest) → Names ≡ a → (b : Lowest) → Loops Resolved ≡ b → (d : Lowest) → Loops Expression ≡ d
-          → orRefuse 7 a (orRefuse 8 b (orRefuse 9 d (Reading.Accepted f))) ≡ Reading.Accepted g → Clear g
-      go (Lowest.At n) p b q d r h = let z : _≡_ {A = ℕ} 0 1 = cc in absurd (omega arith)
-      go Lowest.Nowhere p (Lowest.At i) q d r h = let z : _≡_ {A = ℕ} 0 1 = cc in absurd (omega arith)
-      go Lowest.Nowhere p Lowest.Nowhere q (Lowest.At i) r h = let z : _≡_ {A = ℕ} 0 1 = cc in absurd (omega arith)
-      go Lowest.Nowhere p Lowest.Nowhere q Lowest.Nowhere r h = record { names = p; newtypes = q; aliases = r; frame = cc }
+use Rattle.reader.proofs.Telling.{clear, is-empty, names-none, loops-none, schema-read, exactly}
 
 -- the slots of a run, without where they start
 slots-run : (names : ℕ) (s : List ℕ) (left at : ℕ) (xs : List Placed) (end : ℕ) → read (many left (placedAt names)) s at ≡ done xs end
@@ -179,29 +138,14 @@ module _ (s starts : List ℕ) (f : Frame) (v : Seen s starts f) where
       (λ fs n k. sym (nothing-looped sort (slotsOf (f .names) (f .slots) s starts) fs (f .slots) (slots-past (f .names) (f .slots) s starts) (sym (h (f .names) located) ∙ not-false b e)))
 
   pub reading-is : judged (schemaOf s) f ≡ readingOf s
-  unfolding readingOf
-  reading-is = ap₂ judged schema-is (v .frame) ∙ sym (ap answered (v .reads))
+  reading-is = ap (judged (schemaOf s)) (v .frame) ∙ schema-read s record { image = v .image; end = v .end; reads = v .reads }
 
   pub starts-are : (g : Frame) → startsOr (Reading.Accepted g) (imageOf s) ≡ startsOf (v .image .slots)
   starts-are g = ap (startsOr (Reading.Accepted g)) (v .reads)
 
-  empty-past : (i : ℕ) → length (schemaOf s .slots) ≤ i → slotOf (schemaOf s) i ≡ empty
-  unfolding slotOf
-  empty-past i h = List·getD-eq-default (schemaOf s .slots) empty {n = i} h
-
-  no-loop : (sort : Sort) → loopOf sort (schemaOf s .finds) (slotOf (schemaOf s)) (length (schemaOf s .slots)) ≡ Lowest.Nowhere
-      → (i : ℕ) → OnLoop sort (schemaOf s .finds) (slotOf (schemaOf s)) i → ⊥
-  no-loop sort e = not-looped sort (schemaOf s .finds) (slotOf (schemaOf s)) (length (schemaOf s .slots)) empty-past e
-
   all-found : lostName (schemaOf s .finds) (slotOf (schemaOf s)) ≡ Lowest.Nowhere
       → (n i : ℕ) → getD (schemaOf s .finds) n 0 ≡ suc i → isEmpty (slotOf (schemaOf s) i) ≡ false
-  unfolding lostName lost
-  all-found e n i h = by-cases (decLt n (length (schemaOf s .finds)))
-      (λ l. sym (ap (lost (slotOf (schemaOf s))) h) ∙ lowest-none (λ j. lost (slotOf (schemaOf s)) (getD (schemaOf s .finds) j 0)) (length (schemaOf s .finds)) 0 e n (omega arith) (omega arith))
-      (λ l. absurd (none (sym (List·getD-eq-default (schemaOf s .finds) 0 {n = n} (omega arith)) ∙ h)))
-    where
-      none : 0 ≡ suc i → ⊥
-      none q = omega arith
+  all-found e n i h = is-false _ (λ t. names-none (schemaOf s) .0 e n (i, h, is-empty _ t))
 
   pub promised : (g : Frame) → judged (schemaOf s) f ≡ Reading.Accepted g → Promise s starts g
   unfolding frameIn schemaIn
@@ -222,8 +166,8 @@ module _ (s starts : List ℕ) (f : Frame) (v : Seen s starts f) where
         declaredEnd = v .end;
         declared = declared-is;
         found = all-found (c .names);
-        newtypes = no-loop Resolved (c .newtypes);
-        aliases = no-loop Expression (c .aliases);
+        newtypes = loops-none (schemaOf s) Resolved .0 (c .newtypes);
+        aliases = loops-none (schemaOf s) Expression .0 (c .aliases);
       }
     where
       declarations-are : f .declarations ≡ v .image .declared .declarations
@@ -280,26 +224,27 @@ judged-said s l l′ f h e t r j =
     let v = seen s l l′ f h e t in
     record {
       answer = j ∙ reading-is s l′ f v;
+      exact = exactly s (j ∙ reading-is s l′ f v);
       table = λ g a. t (v .image) (v .end) (v .reads) ∙ ap (λ (vs : List ℕ). sets l 0 vs) (sym (ap (λ (x : Reading). startsOr x (imageOf s)) a ∙ starts-are s l′ f v g));
       promise = λ g a. promised s l′ f v g (sym j ∙ a);
     }
 
 pub refused-said : (s l l′ : List ℕ) (r q : ℕ) → Framed.Refused r q ≡ framed (imageOf s) → Answered s l l′ (Reading.Refused r q)
-refused-said s l l′ r q e = record { answer = not-seen s r q e; table = λ f a. absurd (none a); promise = λ f a. absurd (none a) }
+refused-said s l l′ r q e = record { answer = not-seen s r q e; exact = exactly s (not-seen s r q e); table = λ f a. absurd (none a); promise = λ f a. absurd (none a) }
   where
     none : {f : Frame} → Reading.Refused r q ≡ Reading.Accepted f → ⊥
     none a = let z : _≡_ {A = ℕ} 0 1 = cc in omega arith
 
 -- the table of the public entry
 pub accepted-table : (s l′ : List ℕ) (r : Reading) (f : Frame) → Answered s (replicate 512 0) l′ r → r ≡ Reading.Accepted f
-    → (Reading.Accepted f ≡ readingOf s) × (l′ ≡ startsTable s)
+    → (Reading.Accepted f ≡ readingOf s) × (l′ ≡ startsTable s) × Judged s (Reading.Accepted f)
 unfolding startsTable
 accepted-table s l′ r f d a =
-    (sym a ∙ d .answer, d .table f a ∙ ap (λ (x : Reading). sets (replicate 512 0) 0 (startsOr x (imageOf s))) (d .answer))
+    (sym a ∙ d .answer, d .table f a ∙ ap (λ (x : Reading). sets (replicate 512 0) 0 (startsOr x (imageOf s))) (d .answer), rw a at (d .exact))
 
 pub refused-table : (s l′ : List ℕ) (r : Reading) (n p : ℕ) → Answered s (replicate 512 0) l′ r → r ≡ Reading.Refused n p
-    → (Reading.Refused n p ≡ readingOf s) × (replicate 512 0 ≡ startsTable s)
+    → (Reading.Refused n p ≡ readingOf s) × (replicate 512 0 ≡ startsTable s) × Judged s (Reading.Refused n p)
 unfolding startsTable
 refused-table s l′ r n p d a =
     let e = sym a ∙ d .answer in
-    (e, ap (λ (x : Reading). sets (replicate 512 0) 0 (startsOr x (imageOf s))) e)
+    (e, ap (λ (x : Reading). sets (replicate 512 0) 0 (startsOr x (imageOf s))) e, rw a at (d .exact))

@@ -1,2 +1,4 @@
+pub mod Numbers
+pub mod Telling
 pub mod Losing
 pub mod Judging

@@ -1,7 +1,8 @@
 -- Worked examples of reading: images of document 01, and what each is answered.
 use Prim.Native.Nat.{ℕ}
 use mathlib.Core.Path.{_≡_, refl}
-use mathlib.Core.List.{List, [], _∷_, map}
+use mathlib.Core.List.{List, [], _∷_, _++_, map}
+use lib.ListN.{replicate}
 use Rattle.number.specs.Number.{numberAt, groupsAt, after}
 use Rattle.number.specs.Grammar.{_>>=_, many, counted, tooDeep, nested, andThen, ranged, below, read}
 use Rattle.tree.specs.Tree.{leaf, named, primitive}
@@ -25,21 +26,38 @@ pub record Line : Type 0 where
 abbrev pub shown : List ℕ
 shown = 1 ∷ 0 ∷ 2 ∷ 2 ∷ 0 ∷ 0 ∷ 0 ∷ 2 ∷ 0 ∷ 4 ∷ 1 ∷ 5 ∷ 7 ∷ 0 ∷ 2 ∷ 0 ∷ 0 ∷ 3 ∷ 0 ∷ 0 ∷ 1 ∷ 0 ∷ 3 ∷ 2 ∷ 0 ∷ 1 ∷ []
 
+-- a newtype whose inner type has 32 levels of Optional
+abbrev pub optionals : List ℕ
+optionals = 0 ∷ 1 ∷ 5 ∷ replicate 32 4
+
 abbrev pub lines : List Line
 lines =
     record { image = shown; answer = Reading.Accepted (record { names = 1; finds = 1; slots = 2; declarations = 2; declared = 24 }) }
     -- nothing at all, and no bytes
     ∷ record { image = 0 ∷ 0 ∷ 0 ∷ []; answer = Reading.Accepted (record { names = 0; finds = 1; slots = 0; declarations = 0; declared = 3 }) }
     ∷ record { image = []; answer = Reading.Refused 2 0 }
-    -- not shortest; out of range; extra bytes
+    -- one byte too many
+    ∷ record { image = replicate 65537 0; answer = Reading.Refused 1 0 }
+    -- bytes that end; not shortest; out of range; extra bytes
+    ∷ record { image = 1 ∷ []; answer = Reading.Refused 2 1 }
     ∷ record { image = 128 ∷ 0 ∷ []; answer = Reading.Refused 3 0 }
+    ∷ record { image = 0 ∷ 128 ∷ 0 ∷ []; answer = Reading.Refused 3 1 }
     ∷ record { image = 0 ∷ 129 ∷ 4 ∷ []; answer = Reading.Refused 4 1 }
     ∷ record { image = 0 ∷ 0 ∷ 0 ∷ 0 ∷ []; answer = Reading.Refused 6 3 }
-    -- a name that finds an empty slot
+    -- level 33, which is out of range before it is too deep
+    ∷ record { image = optionals ++ (0 ∷ []); answer = Reading.Refused 5 35 }
+    ∷ record { image = optionals ++ (17 ∷ []); answer = Reading.Refused 4 35 }
+    -- names that find an empty slot; one that finds a slot past the last, before another that finds an empty one
     ∷ record { image = 1 ∷ 1 ∷ 1 ∷ 0 ∷ 0 ∷ []; answer = Reading.Refused 7 0 }
-    -- a newtype of itself; an alias whose target is a generic of it
+    ∷ record { image = 3 ∷ 0 ∷ 5 ∷ 1 ∷ 1 ∷ 0 ∷ 0 ∷ []; answer = Reading.Refused 7 1 }
+    -- a newtype of itself, without and with a name that is lost; newtypes of the second of them
     ∷ record { image = 0 ∷ 1 ∷ 5 ∷ 0 ∷ 0 ∷ 3 ∷ 0 ∷ 0 ∷ []; answer = Reading.Refused 8 0 }
+    ∷ record { image = 2 ∷ 0 ∷ 2 ∷ 1 ∷ 5 ∷ 0 ∷ 0 ∷ 3 ∷ 0 ∷ 0 ∷ []; answer = Reading.Refused 7 1 }
+    ∷ record { image = 0 ∷ 2 ∷ 5 ∷ 0 ∷ 0 ∷ 3 ∷ 1 ∷ 5 ∷ 0 ∷ 0 ∷ 3 ∷ 1 ∷ 0 ∷ []; answer = Reading.Refused 8 1 }
+    -- an alias whose target is a generic of it, first, second, and before a newtype of itself
     ∷ record { image = 1 ∷ 1 ∷ 1 ∷ 7 ∷ 0 ∷ 18 ∷ 0 ∷ 0 ∷ 0 ∷ 0 ∷ []; answer = Reading.Refused 9 0 }
+    ∷ record { image = 1 ∷ 2 ∷ 2 ∷ 6 ∷ 7 ∷ 0 ∷ 18 ∷ 0 ∷ 0 ∷ 0 ∷ 0 ∷ []; answer = Reading.Refused 9 1 }
+    ∷ record { image = 1 ∷ 1 ∷ 2 ∷ 7 ∷ 0 ∷ 18 ∷ 0 ∷ 0 ∷ 0 ∷ 5 ∷ 0 ∷ 0 ∷ 3 ∷ 1 ∷ 0 ∷ []; answer = Reading.Refused 8 1 }
     ∷ []
 
 pub lines-hold : map (λ l. readingOf (l .image)) lines ≡ map (λ l. l .answer) lines

@@ -13,6 +13,7 @@ use Rattle.image.specs.Image.{Image, imageOf, frameIn, startsOf}
 use Rattle.image.specs.declared.Frame.{Frame}
 use Rattle.loops.specs.Refusals.{OnLoop}
 use Rattle.reader.specs.Reading.{isEmpty, readingOf, schemaOf, startsOr}
+use Rattle.reader.specs.Refusals.{Judged}
 use Rattle.reader.specs.declared.Reading.{Reading}
 
 -- the image was read whole, as far as refusals 1 to 6 go, and the table holds where its slots start
@@ -47,5 +48,6 @@ pub record Promise (s starts : List ℕ) (f : Frame) : Type 0 where
 -- what reading into a table that had `before` says of the answer, of the table and of what is promised
 pub record Answered (s before after : List ℕ) (r : Reading) : Type 0 where
   pub answer : r ≡ readingOf s
+  pub exact : Judged s r
   pub table : (f : Frame) → r ≡ Reading.Accepted f → after ≡ sets before 0 (startsOr r (imageOf s))
   pub promise : (f : Frame) → r ≡ Reading.Accepted f → Promise s after f

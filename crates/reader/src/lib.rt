@@ -11,6 +11,7 @@ ghost use lib.ListN.{length};
 ghost use Rattle.number.specs.Grammar.{slot, number, many, done, read};
 ghost use Rattle.loops.specs.Leads.{slotsOf, Located};
 ghost use Rattle.reader.specs.Reading.{lost, lostName, judged, readingOf, schemaOf, startsTable};
+ghost use Rattle.reader.specs.Refusals.{Judged};
 ghost use Rattle.reader.specs.Promise.{Seen, Answered};
 
 pub enum Reading {
@@ -106,7 +107,7 @@ pub fn read_into(image: &[u8], starts: &mut [usize]) -> Reading
 
 // Reads an image: the answer, and the table of where the slots start, which is all zero on a refusal.
 pub fn read_schema(image: &[u8]) -> Read
-    ensures { λ r. ⌜ (r .answer ≡ readingOf (now (image .entry))) × (r .starts ≡ startsTable (now (image .entry))) ⌝ }
+    ensures { λ r. ⌜ (r .answer ≡ readingOf (now (image .entry))) × (r .starts ≡ startsTable (now (image .entry))) × Judged (now (image .entry)) (r .answer) ⌝ }
 {
     let mut starts = [0usize; 512];
     match read_into(image, &mut starts) {

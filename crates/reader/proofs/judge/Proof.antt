@@ -1,7 +1,8 @@
 use mathlib.Core.Path.{_∙_}
 use mathlib.Core.Logic.{⊎-elim}
 use Rattle.tree.specs.declared.Sort.the-variants.{Resolved, Expression}
-use Rattle.reader.proofs.Judging.{refused-7, refused-8, refused-9, none-refused, located, few-names, told-names, told-loop, told-none}
+use Rattle.reader.proofs.Telling.{refused-7, refused-8, refused-9, none-refused}
+use Rattle.reader.proofs.Judging.{located, few-names, told-names, told-loop, told-none}
 use borrow.Author.Needs.{needs}
 use Rattle.reader.proofs.judge.Statement.{statement}
 use Rattle.reader.proofs.judge.Tie as tie
