@@ -73,7 +73,7 @@ fn least_bits(non_exhaustive: u64) -> u64
 }
 
 // The bits of an enum, by its backing and its highest ordinal. There is no backing past the fourth.
-pub fn compute_enum_wire_bits(backing: u64, non_exhaustive: u64, top: u64) -> u64
+fn compute_enum_wire_bits(backing: u64, non_exhaustive: u64, top: u64) -> u64
     ensures { λ r. ⌜ ((e : Enum) → e .backing ≡ backing → e .nonExhaustive ≡ «non_exhaustive» → highest 0 (e .ordinals .live) ≡ top → r ≡ enumBits e) ⌝ }
 {
     match backing {
@@ -90,7 +90,7 @@ pub fn compute_enum_wire_bits(backing: u64, non_exhaustive: u64, top: u64) -> u6
 }
 
 // The bytes of a flags type, by its highest bit.
-pub fn compute_flags_wire_bytes(top: u64) -> u64
+fn compute_flags_wire_bytes(top: u64) -> u64
     ensures { λ r. ⌜ r ≡ bytesTo top ⌝ }
 {
     match top {
