@@ -1,10 +1,10 @@
 // Findings: endless types, and impls that lack a trait's fields.
 ghost use mathlib.Core.Path.{_≡_};
-ghost use mathlib.Core.List.{List, [], _∷_, _++_};
-ghost use Prim.Native.Nat.{ℕ, _<_, _^_};
-ghost use lib.ListN.{length, set};
-ghost use Rattle.findings.specs.Finding.{noted};
-ghost use Rattle.findings.specs.declared.Finding.{Finding};
+ghost use mathlib.Core.List.{[], _∷_};
+ghost use Prim.Native.Nat.{_*_, _<_, _^_};
+ghost use lib.ListN.{set};
+ghost use lib.Seq.{sets};
+ghost use Rattle.findings.specs.Finding.{rowsOf};
 
 pub struct Finding {
     pub class: u32,
@@ -36,10 +36,10 @@ fn put(findings: &mut [u32], i: usize, v: u32)
     }
 }
 
-// One finding more, behind the `count` that the table holds; what has no place is left out.
+// One finding, behind the first `count`; what has no place is left out.
 pub fn put_finding(findings: &mut [u32], count: u64, finding: Finding)
     requires { ⌜ count < 2 ^ 60 ⌝ }
-    ensures { λ _. ⌜ ((l : List Finding) → length l ≡ count → now (findings .entry) ≡ noted (length (now (findings .entry))) l → now (findings .exit) ≡ noted (length (now (findings .entry))) (l ++ (finding ∷ []))) ⌝ }
+    ensures { λ _. ⌜ now (findings .exit) ≡ sets (now (findings .entry)) (6 * count) (rowsOf (finding ∷ [])) ⌝ }
 {
     let at = (6 * count) as usize;
     put(findings, at, finding.class);

@@ -11,6 +11,7 @@ use borrow.Author.Tests.{lt-ltb}
 use lib.Dec.{ltb}
 use lib.ListN.{length, getD, set, take, replicate, length-set, length-append, length-replicate}
 use lib.Seq.{sets, length-sets, length-take-le, take-suc, take-all, take-append-le, getD-append-seam, getD-set-same, getD-set-other}
+use Rattle.table.proofs.Fitting.{sets-append}
 use Rattle.slot.specs.Slot.{Slot, empty}
 use Rattle.image.specs.Schema.{slotOf}
 use Rattle.image.specs.declared.Frame.{Frame}
@@ -26,10 +27,6 @@ pushed (x ∷ l) p u h =
     let z : u + suc (length l) ≡ suc u + length l = omega arith in
     let y : ltb u (length p) ≡ true = lt-ltb u (length p) (omega arith) in
     rw (y, add-one, z) (pushed l (set p u x) (suc u) (rw (length-set p u x) (omega arith)))
-
-sets-append : (a b l : List ℕ) (i : ℕ) → sets (sets l i a) (i + length a) b ≡ sets l i (a ++ b)
-sets-append [] b l i = ap (λ (k : ℕ). sets l k b) (omega arith)
-sets-append (x ∷ a) b l i = ap (λ (k : ℕ). sets (sets (set l i x) (suc i) a) k b) (omega arith) ∙ sets-append a b (set l i x) (suc i)
 
 zeros : {A : Type 0} (n i : ℕ) (d : A) → getD (replicate n d) i d ≡ d
 zeros zero i d = refl
@@ -103,7 +100,7 @@ module _ (xs : List Slot) (x : Slot) (messages : List Bool) (first before parts 
         content =
             ap (λ (y : Filled). y .places) written
             ∙ ap₂ (λ (p : List ℕ) (n : ℕ). sets p n (slotNames x)) (t .content) (omega arith)
-            ∙ sets-append (allOf slotNames xs) (slotNames x) before 0
+            ∙ sym (sets-append (allOf slotNames xs) (slotNames x) before 0)
             ∙ ap (sets before 0) (sym (all-snoc slotNames xs x));
       }
     where

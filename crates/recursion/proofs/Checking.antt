@@ -3,8 +3,11 @@ use Prim.Native.Nat.{ℕ, suc, _+_, _*_, _-_, _^_, _<_, _≤_}
 use mathlib.Core.Path.{_≡_, refl, sym, ap, _∙_}
 use mathlib.Core.List.{List, [], _∷_, _++_, append-nil, append-assoc}
 use mathlib.Core.Bool.{Bool, true, false, true≢false}
+use mathlib.Core.Logic.{by-cases}
 use native.Mathlib.Omega.{arith}
+use native.Mathlib.Decide.{decLt}
 use lib.ListN.{length, getD, replicate, length-append, length-replicate, replicate-append-replicate, List·getD-eq-default}
+use lib.Seq.{sets}
 use Rattle.number.specs.Grammar.{slot, number, many, done, refused, below, read}
 use Rattle.number.proofs.Reading.{read-done, read-number, given, not-done, front}
 use Rattle.slot.specs.Field.{Span, spanAt, storedAt, fieldsAt}
@@ -17,15 +20,15 @@ use Rattle.reader.specs.Promise.{Promise}
 use Rattle.view.specs.Take.{Takes}
 use Rattle.view.proofs.Fetching.{Behind}
 use Rattle.view.proofs.Taking.{span-taken}
-use Rattle.findings.specs.Finding.{finding, noted}
+use Rattle.findings.specs.Finding.{finding, rowsOf, noted}
 use Rattle.findings.specs.Adding.{Adds}
 use Rattle.findings.specs.Endless.{endlessAt, endlessOf}
 use Rattle.findings.specs.declared.Finding.{Finding}
-use Rattle.findings.proofs.Adding.{adds-none, adds-one, adds-then, adds-same}
+use Rattle.findings.proofs.Adding.{adds-none, adds-one, adds-then, adds-same, adds-noted}
 use Rattle.parts.specs.Names.{isMessage}
 use Rattle.parts.specs.Lists.{Listable, Tabled}
 use Rattle.parts.proofs.Tabling.{all-fit}
-use Rattle.walks.specs.Walk.{Held, Counted}
+use Rattle.walks.specs.Walk.{Held, Countable, Counted}
 use Rattle.walks.proofs.Holding.{held}
 use Rattle.recursion.specs.Recursion.{Ready, Checked, Roomy, Tables, FindingAt}
 
@@ -53,14 +56,12 @@ module _ (before : List ℕ) (count : ℕ) (x : Finding) (more : ℕ) where
   put-start = record { put = 0; rest = omega arith; adds = adds-none 0 before count }
 
   module _ (left n : ℕ) (now : List ℕ) (p : Putting before count x more left n now) where
-    pub put-on : 0 < left → (after : List ℕ) → length after ≡ length now
-        → ((l : List Finding) → length l ≡ n → now ≡ noted (length now) l → after ≡ noted (length now) (l ++ (x ∷ [])))
-        → Putting before count x more (left - 1) (n + 1) after
-    put-on h after long f =
+    pub put-on : 0 < left → (after : List ℕ) → after ≡ sets now (6 * n) (rowsOf (x ∷ [])) → Putting before count x more (left - 1) (n + 1) after
+    put-on h after f =
         record {
           put = p .put + 1;
           rest = omega (arith, p .rest);
-          adds = adds-same (p .put + 1) (omega arith) (sym (replicate-append-replicate (p .put) 1 x)) (adds-then (p .put + 1) (p .adds) (adds-one now after n x long f) (omega arith));
+          adds = adds-same (p .put + 1) (omega arith) (sym (replicate-append-replicate (p .put) 1 x)) (adds-then (p .put + 1) (p .adds) (adds-one now after n x f) (omega arith));
         }
 
     pub put-end : left ≤ 0 → Adds more before now count n (replicate more x)
@@ -93,7 +94,7 @@ module _ (t : List ℕ) (count : ℕ) where
         → Adds 65536 t t count count (endlessAt S i (slotOf S i))
     slot-not h e = slot-other (slotOf S i) (sym (h .message i) ∙ e)
 
-message-in : (x : Slot) → isMessage x ≡ true → (m : Message) × (x ≡ message m)
+pub message-in : (x : Slot) → isMessage x ≡ true → (m : Message) × (x ≡ message m)
 message-in (message m) h = (m, refl)
 message-in empty h = absurd (true≢false (sym h))
 message-in (enum e) h = absurd (true≢false (sym h))
@@ -104,6 +105,18 @@ message-in config h = absurd (true≢false (sym h))
 message-in (alias a) h = absurd (true≢false (sym h))
 message-in (trait y) h = absurd (true≢false (sym h))
 message-in (impl y) h = absurd (true≢false (sym h))
+
+-- a slot that is marked holds a message
+abbrev pub countable : {messages : List Bool} {first parts : List ℕ} (S : Schema) → Held S messages first parts → (i : ℕ) → getD messages i false ≡ true → Countable messages first parts i
+countable {messages} S h i e =
+    let own = message-in (slotOf S i) (sym (h .message i) ∙ e) in
+    record {
+      schema = S;
+      held = h;
+      within = by-cases (decLt i 512) (λ l. l) (λ l. absurd (true≢false (sym e ∙ List·getD-eq-default messages false {n = i} (omega (arith, h .marks)))));
+      holder = own .0;
+      there = own .1;
+    }
 
 -- a message, from its kind and its body
 message-reads : (names : ℕ) (s : List ℕ) (x : Slot) (kind body : ℕ) → Behind names s x kind body → (m : Message) → x ≡ message m → (end : ℕ) × (read (messageAt names) s body ≡ done m end)
@@ -121,20 +134,20 @@ module _ (s : List ℕ) (messages : List Bool) (first parts : List ℕ) (h : Hel
   S = schemaOf s
 
   module _ (e : getD messages i false ≡ true) where
-    own : (m : Message) × (slotOf S i ≡ message m)
-    own = message-in (slotOf S i) (sym (h .message i) ∙ e)
+    abbrev own : Countable messages first parts i
+    own = countable S h i e
 
-    all-of : endlessAt S i (slotOf S i) ≡ replicate more (finding 1 i (own .0 .span) 0 0)
-    all-of = ap (endlessAt S i) (own .1) ∙ ap (λ (n : ℕ). replicate n (finding 1 i (own .0 .span) 0 0)) (sym (c .count S h (own .0) (own .1)))
+    all-of : endlessAt S i (slotOf S i) ≡ replicate more (finding 1 i (own .holder .span) 0 0)
+    all-of = ap (endlessAt S i) (own .there) ∙ ap (λ (n : ℕ). replicate n (finding 1 i (own .holder .span) 0 0)) (sym (c .count own))
 
     pub slot-free : more ≡ 0 → Adds 65536 t t count count (endlessAt S i (slotOf S i))
-    slot-free z = none-here t count _ (all-of ∙ ap (λ (n : ℕ). replicate n (finding 1 i (own .0 .span) 0 0)) z)
+    slot-free z = none-here t count _ (all-of ∙ ap (λ (n : ℕ). replicate n (finding 1 i (own .holder .span) 0 0)) z)
 
     pub slot-found : (names kind body : ℕ) → Behind names s (slotOf S i) kind body → (x : Finding) → FindingAt s body i x → (t′ : List ℕ) (r : ℕ) → Adds more t t′ count r (replicate more x)
         → Adds 65536 t t′ count r (endlessAt S i (slotOf S i))
     slot-found names kind body b x f t′ r a =
-        let w = message-reads names s (slotOf S i) kind body b (own .0) (own .1) in
-        adds-same 65536 (omega (arith, c .most)) (all-of ∙ ap (replicate more) (sym (f names (own .0) (w .0) (w .1)))) a
+        let w = message-reads names s (slotOf S i) kind body b (own .holder) (own .there) in
+        adds-same 65536 (omega (arith, c .most)) (all-of ∙ ap (replicate more) (sym (f names (own .holder) (w .0) (w .1)))) a
 
 -- ## All declarations
 
@@ -177,10 +190,10 @@ module _ (s before : List ℕ) (left p count : ℕ) (now : List ℕ) (t : Turn s
     pub never-refused : (r q : ℕ) → below (2 ^ 32) s p ≡ refused r q → ⊥
     never-refused r q e = not-done e (declared-front .3)
 
-    pub next-turn : (i n : ℕ) → below (2 ^ 32) s p ≡ done i n → length now ≡ length before → (after : List ℕ) (r : ℕ)
+    pub next-turn : (i n : ℕ) → below (2 ^ 32) s p ≡ done i n → (after : List ℕ) (r : ℕ)
         → Adds 65536 now after count r (endlessAt (schemaOf s) i (slotOf (schemaOf s) i)) → Turn s before (left - 1) n r after
     unfolding endlessOf
-    next-turn i n e long after r a =
+    next-turn i n e after r a =
         let w = declared-front in
         let g = given (sym e ∙ w .3) in
         let more = endlessAt (schemaOf s) i (slotOf (schemaOf s) i) in
@@ -191,7 +204,7 @@ module _ (s before : List ℕ) (left p count : ℕ) (now : List ℕ) (t : Turn s
           reads = ap (read (many (left - 1) (number slot (2 ^ 32))) s) (g .1) ∙ w .4;
           found = t .found ++ more;
           whole = t .whole ∙ ap (λ (ds : List ℕ). t .found ++ endlessOf (schemaOf s) ds) own ∙ sym (append-assoc (t .found) more (endlessOf (schemaOf s) (w .1)));
-          table = a .table (t .found) (sym (t .counts)) (t .table ∙ ap (λ (m : ℕ). noted m (t .found)) (sym long)) ∙ ap (λ (m : ℕ). noted m (t .found ++ more)) long;
+          table = adds-noted a (length before) (t .found) (sym (t .counts)) (t .table);
           counts = a .answer ∙ omega (arith, t .counts, length-append (t .found) more);
           most = omega (arith, t .most, a .few);
         }

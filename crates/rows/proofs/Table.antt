@@ -9,6 +9,7 @@ use native.Mathlib.Numerals.{add-one}
 use native.Mathlib.Nat.{zero-add}
 use lib.ListN.{length, getD, set, drop, length-append, drop-of-length-le}
 use lib.Seq.{sets, sets-eq, length-sets, drop-cons}
+use Rattle.table.proofs.Fitting.{sets-append}
 use Rattle.slot.specs.Slot.{Slot, empty, message, enum, flags, union, newtype, config, alias, trait, impl}
 use Rattle.image.specs.Schema.{Schema, slotOf}
 use Rattle.sizes.specs.declared.Size.{Size}
@@ -19,10 +20,6 @@ use Rattle.sizes.specs.Turns.{store-same, store-other}
 use Rattle.sizes.specs.Table.{Row, slot-row, sizable-row, table-place, table-entry}
 
 -- ## Runs of stores
-
-pub sets-append : (a b l : List ℕ) (i : ℕ) → sets l i (a ++ b) ≡ sets (sets l i a) (i + length a) b
-sets-append [] b l i = ap (λ (k : ℕ). sets l k b) (omega arith)
-sets-append (x ∷ a) b l i = sets-append a b (set l i x) (suc i) ∙ ap (λ (k : ℕ). sets (sets (set l i x) (suc i) a) k b) (omega arith)
 
 -- past the first element
 sets-later : (x : ℕ) (vs l : List ℕ) (i : ℕ) → sets (x ∷ l) (suc i) vs ≡ x ∷ sets l i vs

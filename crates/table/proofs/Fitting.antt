@@ -83,6 +83,11 @@ fitted-next zero l v = refl
 fitted-next (suc n) [] v = refl
 fitted-next (suc n) (x ∷ l) v = ap (λ (k : List ℕ). x ∷ k) (fitted-next n l v)
 
+-- one run of stores after another
+pub sets-append : (a b l : List ℕ) (i : ℕ) → sets l i (a ++ b) ≡ sets (sets l i a) (i + length a) b
+sets-append [] b l i = ap (λ (k : ℕ). sets l k b) (omega arith)
+sets-append (x ∷ a) b l i = sets-append a b (set l i x) (suc i) ∙ ap (λ (k : ℕ). sets (sets (set l i x) (suc i) a) k b) (omega arith)
+
 -- a table that holds a list, written on
 pub written-on : (n : ℕ) (l t : List ℕ) → sets (fitted n l) (length l) t ≡ fitted n (l ++ t)
 written-on n l [] = ap (fitted n) (sym (append-nil l))

@@ -24,13 +24,10 @@ use Rattle.findings.specs.Endless.{endlessOf}
 use Rattle.findings.specs.Conformance.{conformanceOf}
 use Rattle.findings.specs.Findings.{findingsOf}
 use Rattle.findings.specs.declared.Finding.{Finding}
+use Rattle.findings.proofs.Adding.{adds-noted}
 use Rattle.recursion.specs.Recursion as endless
 use Rattle.typeck.specs.Check.{judged, verdictIn, verdictOf, onAccepted, sizeTable, findingTable, Answered, Found}
 use Rattle.typeck.specs.declared.Verdict.{Verdict}
-
--- a table that holds findings, by its own length
-pub noted-itself : (t : List ℕ) (n : ℕ) (l : List Finding) → t ≡ noted n l → t ≡ noted (length t) l
-noted-itself t n l e = e ∙ ap (λ (k : ℕ). noted k l) (sym (fitted-length n (rowsOf l)) ∙ ap length (sym e))
 
 pub noted-length : (t : List ℕ) (n : ℕ) (l : List Finding) → t ≡ noted n l → length t ≡ n
 noted-length t n l e = ap length e ∙ fitted-length n (rowsOf l)
@@ -43,10 +40,7 @@ both-noted s before t u n k c a =
     let S = schemaOf s in
     let E = endlessOf S (S .declared) in
     let C = conformanceOf S 0 (S .slots) in
-    let l = noted-length t (length before) E (c .table) in (
-      a .answer ∙ ap (λ (m : ℕ). m + length C) (c .count) ∙ sym (length-append E C),
-      a .table E (sym (c .count)) (noted-itself t (length before) E (c .table)) ∙ ap (λ (m : ℕ). noted m (E ++ C)) l,
-    )
+    (a .answer ∙ ap (λ (m : ℕ). m + length C) (c .count) ∙ sym (length-append E C), adds-noted a (length before) E (sym (c .count)) (c .table))
 
 module _ (s sizes findings : List ℕ) where
   -- refusal 12

@@ -188,7 +188,9 @@ module _ (messages : List Bool) (first parts : List ℕ) (i : ℕ) where
   unfolding start
   count-is T t r k =
       record {
-        count = λ S held m e. ap (λ (x : RecursionState). x .count) (k .walked S held 513 (omega (arith, unvisited-start))) ∙ sym (message-count S held m e);
+        count = λ a.
+            ap (λ (x : RecursionState). x .count) (k .walked (a .schema) (a .held) 513 (omega (arith, unvisited-start)))
+            ∙ sym (message-count (a .schema) (a .held) (a .holder) (a .there));
         most =
             let q = k .walked T t 513 (omega (arith, unvisited-start)) in
             let w = parts-moved T (λ x y z. walkName T 513 x y z) (steady T (t .few) 513) true (slotNames (slotOf T i)) (start i) (start-whole i) in
@@ -199,9 +201,11 @@ module _ (messages : List Bool) (first parts : List ℕ) (i : ℕ) where
   unfolding row start walkParts
   count-none h =
       record {
-        count = λ S held m e.
+        count = λ a.
             let z : getD first (i + 1) 0 - getD first i 0 ≡ 0 = omega arith in
-            let n : [] ≡ slotNames (slotOf S i) = sym (ap (λ (x : ℕ). take x (drop (getD first i 0) parts)) z) ∙ held .names i in
-            sym (message-count S held m e ∙ ap (λ (l : List ℕ). walkParts (λ x y z. walkName S 513 x y z) true l (start i) .count) (sym n));
+            let n : [] ≡ slotNames (slotOf (a .schema) i) = sym (ap (λ (x : ℕ). take x (drop (getD first i 0) parts)) z) ∙ a .held .names i in
+            sym
+            (message-count (a .schema) (a .held) (a .holder) (a .there)
+            ∙ ap (λ (l : List ℕ). walkParts (λ x y z. walkName (a .schema) 513 x y z) true l (start i) .count) (sym n));
         most = omega arith;
       }

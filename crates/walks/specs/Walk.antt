@@ -57,13 +57,15 @@ pub record SlotWalked (messages : List Bool) (first parts : List ℕ) (slot : �
 abbrev pub ownNames : (slot : ℕ) → Schema → ℕ
 ownNames i S = length (slotNames (slotOf S i))
 
--- tables of some schema
+-- tables of some schema, which has a message in that slot
 pub record Countable (messages : List Bool) (first parts : List ℕ) (slot : ℕ) : Type 0 where
   pub schema : Schema
   pub held : Held schema messages first parts
   pub within : slot < 512
+  pub holder : Message
+  pub there : slotOf schema slot ≡ message holder
 
--- how often a message holds itself
+-- how often that message holds itself
 pub record Counted (messages : List Bool) (first parts : List ℕ) (slot r : ℕ) : Type 0 where
-  pub count : (S : Schema) → Held S messages first parts → (m : Message) → slotOf S slot ≡ message m → r ≡ endlessIn S slot (m .fields)
+  pub count : (a : Countable messages first parts slot) → r ≡ endlessIn (a .schema) slot (a .holder .fields)
   pub most : r ≤ 65536

@@ -1,6 +1,7 @@
 use native.Mathlib.Omega.{arith}
 use Prim.Native.Nat.{_-_}
 use Rattle.reader.specs.Reading.{schemaOf}
+use Rattle.findings.proofs.Adding.{adds-kept}
 use Rattle.conformance.proofs.Slots.{Passed, none-passed, one-passed, all-passed}
 use Rattle.conformance.proofs.check_impl_conformance.Statement.{statement}
 use Rattle.conformance.proofs.check_impl_conformance.Tie as tie
@@ -22,5 +23,5 @@ check-impl-conformance-spec =
     (λ c. omega (arith, c .before .before .before .before .loop-test .taken, c .before .before .before .before .before .before .before .before .before .pre .0 .few))
     (λ c. omega arith)
     (λ c. one-passed _ _ _ _ _ _ _ _ (c .before .before .before .before .before .loop .inv) (omega (arith, c .before .before .before .before .loop-test .taken, c .before .before .before .before .before .before .before .before .before .pre .0 .count)) (c .before .before .check-slot .ensures))
-    (λ c. c .before .loop .inv .adds .kept)
+    (λ c. adds-kept (c .before .loop .inv .adds))
     (λ c. all-passed _ _ _ _ _ _ (c .before .loop .inv) (omega (arith, c .loop-test .left, c .before .before .before .before .before .pre .0 .count)) (omega (arith, c .before .loop .inv .low, c .before .before .before .before .before .pre .0 .count, c .before .before .before .before .before .pre .0 .few))))

@@ -3,6 +3,7 @@ use native.Mathlib.Omega.{arith}
 use Prim.Native.Nat.{ℕ, _-_}
 use mathlib.Core.Path.{_≡_}
 use lib.ListN.{length, length-replicate}
+use Rattle.findings.proofs.Adding.{adds-kept}
 use Rattle.conformance.specs.Adding.{Targeted}
 use Rattle.conformance.proofs.Required.{finds-hold, Going, at-start, at-end, search-asked, going-on}
 use Rattle.conformance.proofs.check_required_fields.Statement.{statement}
@@ -39,5 +40,5 @@ check-required-fields-spec =
     (λ c. omega (arith, c .before .before .before .before .before .before .before .before .before .before .before .before .before .before .before .if1 .taken, c .before .before .before .before .before .before .before .before .before .before .before .before .before .before .before .before .before .before .before .before .before .before .before .before .before .before .pre .paired .traitIs .few))
     (λ c. omega arith)
     (λ c. (search needs, λ x. going-on _ _ _ _ _ _ _ _ _ _ _ _ _ _ (c .before .before .before .before .before .before .before .before .before .before .before .before .before .before .before .if1 .taken) (c .before .before .before .before .before .before .before .before .before .before .before .before .before .before .before .before .before .loop .inv .0) _ _ (c .before .before .before .before .before .before .before .before .before .before .before .before .before .before .take2 .ensures) _ _ _ (c .before .before .before .before .before .before .before .before .before .before .before .look-up .ensures .1) _ (finds-hold _ _ _ (c .before .before .before .before .before .before .before .before .before .before .before .before .before .before .before .before .before .before .before .before .before .before .before .before .before .before .pre .paired .promise) _ (c .before .before .before .before .before .before .before .before .before .before .before .before .before .before .before .before .before .before .before .before .before .read-finds .ensures)) _ _ _ (c .before .before .before .before .before .before .before .before .before .before .before .before .before .before .before .before .before .before .before .fields-place .ensures) (c .before .before .before .before .before .before .before .before .before .before .before .before .before .before .before .before .before .before .take .ensures) _ (c .before .before .before .before .before .has-field .ensures) _ (c .before .before .before .own-finding .ensures) _ _ (c .before .before .put-unless .ensures) x (c .before .before .before .before .before .before .before .before .before .before .before .before .before .before .before .before .before .loop .inv .1 x)))
-    (λ c. c .before .before .loop .inv .1 (c .before .before .before .before .before .before .before .before .before .before .before .pre) .adds .kept)
+    (λ c. adds-kept (c .before .before .loop .inv .1 (c .before .before .before .before .before .before .before .before .before .before .before .pre) .adds))
     (λ c. λ x. at-end _ _ _ _ _ _ _ _ x _ _ _ _ _ _ (c .before .before .loop .inv .1 x) (omega (arith, c .if1 .left))))

@@ -1,5 +1,4 @@
-use native.Mathlib.Omega.{arith}
-use Rattle.findings.proofs.Noting.{noted-next}
+use Rattle.findings.proofs.Noting.{six-put}
 use borrow.Author.Needs.{needs}
 use Rattle.findings.proofs.put_finding.Statement.{statement}
 use Rattle.findings.proofs.put_finding.Tie as tie
@@ -21,4 +20,4 @@ put-finding-spec =
     (λ c. search needs)
     (λ c κs. search needs)
     (λ c. search needs)
-    (λ c. λ l h e. noted-next _ _ l _ _ _ _ _ _ _ _ e (omega arith) (c .before .before .before .before .before .before .before .before .before .before .before .before .before .before .before .before .before .before .before .before .before .before .put .ensures) (c .before .before .before .before .before .before .before .before .before .before .before .before .before .before .before .before .before .before .put2 .ensures) (c .before .before .before .before .before .before .before .before .before .before .before .before .before .before .put3 .ensures) (c .before .before .before .before .before .before .before .before .before .before .put4 .ensures) (c .before .before .before .before .before .before .put5 .ensures) (c .before .before .put6 .ensures)))
+    (λ c. six-put _ _ _ _ _ _ _ _ _ (c .before .before .before .before .before .before .before .before .before .before .before .before .before .before .before .before .before .before .before .before .before .before .put .ensures) (c .before .before .before .before .before .before .before .before .before .before .before .before .before .before .before .before .before .before .put2 .ensures) (c .before .before .before .before .before .before .before .before .before .before .before .before .before .before .put3 .ensures) (c .before .before .before .before .before .before .before .before .before .before .put4 .ensures) (c .before .before .before .before .before .before .put5 .ensures) (c .before .before .put6 .ensures)))

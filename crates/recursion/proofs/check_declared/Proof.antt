@@ -28,6 +28,6 @@ check-declared-spec =
     (λ c κs. (c .before .before .before .before .before .before .before .before .before .before .before .before .before .pre .0, small-count _ _ _ _ _ _ (c .before .before .before .before .before .before .loop .inv .1) (c .before .before .before .before .before .loop-test .taken)))
     (λ c. omega arith)
     (λ c. omega arith)
-    (λ c. (search needs, next-turn _ _ _ _ _ _ (c .before .before .before .before .before .before .before .before .before .loop .inv .1) (c .before .before .before .before .before .before .before .before .loop-test .taken) _ _ (told (c .before .before .before .before .before .before .before .read-below .ensures) (c .before .before .before .before .before .slot .given .1)) (c .before .before .before .before .before .before .before .before .before .loop .inv .0) _ _ (c .before .before .check-slot .ensures)))
+    (λ c. (search needs, next-turn _ _ _ _ _ _ (c .before .before .before .before .before .before .before .before .before .loop .inv .1) (c .before .before .before .before .before .before .before .before .loop-test .taken) _ _ (told (c .before .before .before .before .before .before .before .read-below .ensures) (c .before .before .before .before .before .slot .given .1)) _ _ (c .before .before .check-slot .ensures)))
     (λ c. search needs)
     (λ c. last-turn _ _ _ _ _ _ (c .before .loop .inv .1) (c .loop-test .left)))

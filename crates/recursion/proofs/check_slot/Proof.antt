@@ -1,7 +1,7 @@
 use native.Mathlib.Omega.{arith}
 use mathlib.Core.Path.{sym, _∙_}
 use Rattle.view.proofs.Fetching.{part-behind, not-missing}
-use Rattle.recursion.proofs.Checking.{slot-past, slot-not, slot-free, slot-found}
+use Rattle.recursion.proofs.Checking.{countable, slot-past, slot-not, slot-free, slot-found}
 use borrow.Author.Needs.{needs}
 use Rattle.recursion.proofs.check_slot.Statement.{statement}
 use Rattle.recursion.proofs.check_slot.Tie as tie
@@ -12,7 +12,7 @@ check-slot-spec =
     (tie.spec
     (λ c. slot-past _ _ _ _ (c .before .before .before .before .before .before .before .before .pre .0 .promise .count) (c .if1 .taken))
     (λ c. omega (arith, c .before .before .before .before .before .before .before .before .before .pre .0 .held .marks, c .before .before .before .before .before .before .before .before .before .pre .0 .promise .few, c .before .if1 .left))
-    (λ c κs. record { schema = _; held = c .before .before .before .before .before .before .before .before .before .before .pre .0 .held; within = omega (arith, c .before .before .before .before .before .before .before .before .before .before .pre .0 .promise .few, c .before .before .if1 .left) })
+    (λ c κs. countable _ (c .before .before .before .before .before .before .before .before .before .before .pre .0 .held) _ (c .if2 .taken))
     (λ c. slot-free _ _ _ _ (c .before .before .before .before .before .before .before .before .before .before .before .before .pre .0 .held) _ _ (c .before .count-recursion .ensures) _ _ (c .before .before .if2 .taken) (c .if3 .taken))
     (λ c κs. search needs)
     (λ c. search needs)

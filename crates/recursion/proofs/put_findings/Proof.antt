@@ -1,5 +1,6 @@
 use borrow.Author.Needs.{needs}
 use native.Mathlib.Omega.{arith}
+use Rattle.findings.proofs.Adding.{adds-kept}
 use Rattle.recursion.proofs.Checking.{Putting, put-start, put-on, put-end}
 use Rattle.recursion.proofs.put_findings.Statement.{statement}
 use Rattle.recursion.proofs.put_findings.Tie as tie
@@ -21,6 +22,6 @@ put-findings-spec =
     (λ c. omega (arith, c .before .before .before .before .before .loop .inv .adds .few, c .before .before .before .before .before .loop .inv .rest, c .before .before .before .before .before .before .before .pre))
     (λ c. omega arith)
     (λ c. omega arith)
-    (λ c. put-on _ _ _ _ _ _ _ (c .before .before .before .before .before .loop .inv) (c .before .before .before .before .loop-test .taken) _ (search needs) (c .before .before .put-finding .ensures))
-    (λ c. c .before .loop .inv .adds .kept)
+    (λ c. put-on _ _ _ _ _ _ _ (c .before .before .before .before .before .loop .inv) (c .before .before .before .before .loop-test .taken) _ (c .before .before .put-finding .ensures))
+    (λ c. adds-kept (c .before .loop .inv .adds))
     (λ c. put-end _ _ _ _ _ _ _ (c .before .loop .inv) (c .loop-test .left)))
