@@ -1,18 +1,18 @@
--- The kind of a type's head, and the number that it holds.
+-- The head of a type by its kind and its number, for every kind and number.
 use Prim.Native.Nat.{ℕ}
-use Rattle.tree.specs.Tree.{Tree, leaf, wrap, fixedArray, pair, generic, wrapKind, pairKind, leafKind, leafNumber}
+use mathlib.Core.Bool.{cond}
+use mathlib.Core.List.{[], _∷_}
+use lib.Dec.{eqb}
+use lib.ListN.{getD, replicate}
+use Rattle.tree.specs.Tree.{Leaf, Wrap, primitive, subByte, semantic, named, bitsInline, qualified, optional, array, setOf, vec2, vec3, vec4, quat, mat3, mat4}
 
-abbrev pub kindOf : Tree → ℕ
-kindOf (leaf l) = leafKind l
-kindOf (wrap w t) = wrapKind w
-kindOf (fixedArray t k) = 6
-kindOf (pair p t u) = pairKind p
-kindOf (generic n t) = 18
+-- from kind 0 on, and kind 16; a size asks for no sign and no names. No type has another kind without parts
+unfoldable pub leafOf : (kind number : ℕ) → Leaf
+leafOf k v = cond (eqb k 16) (bitsInline (replicate v 0)) (getD (primitive v ∷ subByte 0 v ∷ semantic v ∷ named v ∷ []) k (qualified v))
 
--- 0 where there is none
-abbrev pub numberOf : Tree → ℕ
-numberOf (leaf l) = leafNumber l
-numberOf (wrap w t) = 0
-numberOf (fixedArray t k) = 0
-numberOf (pair p t u) = 0
-numberOf (generic n t) = 0
+-- from kind 0 on; what is no kind with one child counts as an array
+unfoldable pub wrapOf : (kind : ℕ) → Wrap
+wrapOf k =
+    getD
+    (array ∷ array ∷ array ∷ array ∷ optional ∷ array ∷ array ∷ setOf ∷ array ∷ array ∷ vec2 ∷ vec3 ∷ vec4 ∷ quat ∷ mat3 ∷ mat4 ∷ [])
+    k array

@@ -4,10 +4,10 @@ use sizes::Size;
 use sizes::Worked;
 ghost use mathlib.Core.Path.{_≡_};
 ghost use Prim.Native.Nat.{_+_, _*_, _^_, min, max};
-ghost use Rattle.tree.specs.Tree.{Tree, Leaf, Wrap, leafKind, leafNumber, wrapKind};
-ghost use Rattle.sizes.specs.Sizes.{smallest, largest, variable, both, limited, limitedSum, limitedProduct, Resolver, leafSize, countOf, wrapSize, primitiveBits, semanticBits, fixedOrOpen, optionalSize, multiplied, withoutLargest, widened, raised, varintEnd, zigZagEnd};
+ghost use Rattle.tree.specs.Tree.{leaf};
+ghost use Rattle.sizes.specs.Sizes.{smallest, largest, variable, both, limited, limitedSum, limitedProduct, Resolver, leafSize, countOf, wrapSize, primitiveBits, semanticBits, fixedOrOpen, optionalSize, multiplied, withoutLargest, widened, raised, added, varintEnd, zigZagEnd};
 ghost use Rattle.measures.specs.Cut.{cutSum, highOf};
-ghost use Rattle.measures.specs.Heads.{kindOf, numberOf};
+ghost use Rattle.measures.specs.Heads.{leafOf, wrapOf};
 
 // A largest, if there is one.
 pub enum Bound {
@@ -175,7 +175,8 @@ pub fn semantic_wire_size(m: u64) -> Size
 
 // A type without children, names aside, by its kind and its number.
 pub fn leaf_wire_size(kind: u64, number: u64) -> Size
-    ensures { λ r. ⌜ ((names : Resolver) (l : Leaf) → leafKind l ≡ kind → leafNumber l ≡ number → (kind ≡ 3 → ⊥) → Worked.Sized r ≡ leafSize names l) ⌝ }
+    requires { ⌜ (kind ≡ 3 → ⊥) ⌝ }
+    ensures { λ r. ⌜ ((names : Resolver) → Worked.Sized r ≡ leafSize names (leafOf kind number)) ⌝ }
 {
     match kind {
         0 => primitive_wire_size(number),
@@ -188,28 +189,28 @@ pub fn leaf_wire_size(kind: u64, number: u64) -> Size
 
 // Varint, by the kind and the number of a type's head.
 pub fn varint_wire_size(kind: u64, number: u64) -> Size
-    ensures { λ r. ⌜ ((t : Tree) → kindOf t ≡ kind → numberOf t ≡ number → r ≡ Size.Bounded 8 (varintEnd t)) ⌝ }
+    ensures { λ r. ⌜ r ≡ Size.Bounded 8 (varintEnd (leaf (leafOf kind number))) ⌝ }
 {
-    if kind != 0 {
-        return Size::Bounded(8, 80);
-    }
-    match number {
-        2 => Size::Bounded(8, 24),
-        3 => Size::Bounded(8, 40),
+    match kind {
+        0 => match number {
+            2 => Size::Bounded(8, 24),
+            3 => Size::Bounded(8, 40),
+            _ => Size::Bounded(8, 80),
+        },
         _ => Size::Bounded(8, 80),
     }
 }
 
 // ZigZag likewise.
 pub fn zigzag_wire_size(kind: u64, number: u64) -> Size
-    ensures { λ r. ⌜ ((t : Tree) → kindOf t ≡ kind → numberOf t ≡ number → r ≡ Size.Bounded 8 (zigZagEnd t)) ⌝ }
+    ensures { λ r. ⌜ r ≡ Size.Bounded 8 (zigZagEnd (leaf (leafOf kind number))) ⌝ }
 {
-    if kind != 0 {
-        return Size::Bounded(8, 80);
-    }
-    match number {
-        6 => Size::Bounded(8, 24),
-        7 => Size::Bounded(8, 40),
+    match kind {
+        0 => match number {
+            6 => Size::Bounded(8, 24),
+            7 => Size::Bounded(8, 40),
+            _ => Size::Bounded(8, 80),
+        },
         _ => Size::Bounded(8, 80),
     }
 }
@@ -227,9 +228,9 @@ pub fn multiply_wire_size(size: Size, count: u64) -> Worked
     }
 }
 
-// A kind with one child, Array and Set aside.
+// A kind with one child.
 pub fn wrap_wire_size(kind: u64, child: Size) -> Worked
-    ensures { λ r. ⌜ ((w : Wrap) → wrapKind w ≡ kind → (kind ≡ 5 → ⊥) → (kind ≡ 7 → ⊥) → r ≡ wrapSize (countOf w) (Worked.Sized child)) ⌝ }
+    ensures { λ r. ⌜ r ≡ wrapSize (countOf (wrapOf kind)) (Worked.Sized child) ⌝ }
 {
     match kind {
         4 => optional_wire_size(child),
@@ -238,7 +239,8 @@ pub fn wrap_wire_size(kind: u64, child: Size) -> Worked
         12 => multiply_wire_size(child, 4),
         13 => multiply_wire_size(child, 4),
         14 => multiply_wire_size(child, 9),
-        _ => multiply_wire_size(child, 16),
+        15 => multiply_wire_size(child, 16),
+        _ => Worked::Sized(Size::Open(8)),
     }
 }
 
@@ -276,15 +278,37 @@ pub fn widen(a: Size, b: Size) -> Size
     )
 }
 
+// The sum of two sizes, not Fixed.
+fn add_varying(a: Size, b: Size) -> Worked
+    ensures { λ r. ⌜ r ≡ limitedSum (variable (smallest a + smallest b) (both _+_ (largest a) (largest b))) ⌝ }
+{
+    let varying = vary(
+        sum(wire_size_min_bits(a), wire_size_min_bits(b)),
+        sum_bounds(wire_size_max_bits(a), wire_size_max_bits(b)),
+    );
+    within_limit(Operation::Sum, varying)
+}
+
+// A running total with one field more: Fixed if both are.
+pub fn add_wire_size(total: Size, field: Size) -> Worked
+    ensures { λ r. ⌜ r ≡ limitedSum (added total field) ⌝ }
+{
+    match total {
+        Size::Fixed(x) => match field {
+            Size::Fixed(y) => within_limit(Operation::Sum, Size::Fixed(sum(x, y))),
+            Size::Bounded(_, _) => add_varying(total, field),
+            Size::Open(_) => add_varying(total, field),
+        },
+        Size::Bounded(_, _) => add_varying(total, field),
+        Size::Open(_) => add_varying(total, field),
+    }
+}
+
 // So many bits more.
 fn raise(bits: u64, size: Size) -> Worked
     ensures { λ r. ⌜ r ≡ limitedSum (raised bits size) ⌝ }
 {
-    let raised = vary(
-        sum(bits, wire_size_min_bits(size)),
-        sum_bounds(Bound::Most(bits), wire_size_max_bits(size)),
-    );
-    within_limit(Operation::Sum, raised)
+    add_varying(Size::Fixed(bits), size)
 }
 
 pub fn result_wire_size(ok: Size, err: Size) -> Worked

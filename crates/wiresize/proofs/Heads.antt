@@ -14,7 +14,7 @@ use Rattle.slot.specs.Field.{typeAt}
 use Rattle.sizes.specs.declared.Operation.{Operation}
 use Rattle.sizes.specs.declared.Worked.the-variants.{Sized, Over}
 use Rattle.sizes.specs.Sizes.{countOf, then, wrapSize}
-use Rattle.measures.specs.Heads.{kindOf, numberOf}
+use Rattle.measures.proofs.ByKind.{kindOf, numberOf}
 use Rattle.wiresize.specs.Steps.{kindIn, numberIn}
 
 pub wrap-over : (w : Wrap) → (wrapKind w ≡ 5 → ⊥) → (wrapKind w ≡ 7 → ⊥) → (o : Operation) → Over o ≡ wrapSize (countOf w) (Over o)

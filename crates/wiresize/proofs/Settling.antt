@@ -6,7 +6,7 @@ use native.Mathlib.Omega.{arith}
 use lib.ListN.{getD}
 use Rattle.number.specs.Grammar.{done, read}
 use Rattle.number.proofs.Reading.{given}
-use Rattle.tree.specs.Tree.{Tree, Leaf, leaf, leafKind, leafNumber}
+use Rattle.tree.specs.Tree.{Tree, leaf}
 use Rattle.slot.specs.Field.{typeAt, fieldAt, Field}
 use Rattle.slot.specs.Short.{shortAt, shortEncoding, shortLeaf, shortField}
 use Rattle.slot.specs.declared.Short.{Short}
@@ -15,7 +15,8 @@ use Rattle.sizes.specs.Sizes.{Resolver, leafSize, typeSize, encodedSize, fieldS
 use Rattle.sizes.specs.declared.Size.{Size}
 use Rattle.sizes.specs.declared.Size.the-variants.{Bounded}
 use Rattle.sizes.specs.declared.Worked.the-variants.{Sized}
-use Rattle.measures.specs.Heads.{kindOf, numberOf}
+use Rattle.measures.specs.Heads.{leafOf}
+use Rattle.measures.proofs.ByKind.{leaf-as, varint-as, zigzag-as}
 use Rattle.view.proofs.Places.{at-place}
 use Rattle.wiresize.specs.Steps.{Passed, Coding, Settles}
 use Rattle.wiresize.specs.declared.Coded.{Coded}
@@ -63,24 +64,24 @@ module _ (names : ℕ) (s : List ℕ) (at e k v : ℕ) (h : shortAt names s at �
   unfolding Settles fieldSize
   by-size z n m f x end q = let g = is-own x end q in (m ∙ g .1, λ R. f R ∙ ap (fieldSize R) (g .0))
 
-  pub short-leaf : e ≡ 0 → (k ≡ 3 → ⊥) → (z : Size) → ((R : Resolver) (l : Leaf) → leafKind l ≡ k → leafNumber l ≡ v → (k ≡ 3 → ⊥) → Sized z ≡ leafSize R l) → (n : ℕ) → n ≡ at + 4
+  pub short-leaf : e ≡ 0 → (z : Size) → ((R : Resolver) → Sized z ≡ leafSize R (leafOf k v)) → (n : ℕ) → n ≡ at + 4
       → Settles names s at (Settled.Is record { worked = Sized z; next = n })
   unfolding encodedSize typeSize
-  short-leaf i not z f n m =
-      by-size z n m (λ R. f R (shortLeaf k v) (short-kind names s at e k v h) (short-number names s at e k v h) not ∙ subst (λ (j : ℕ). typeSize R type ≡ encodedSize R (shortEncoding j) type) (sym i) refl)
+  short-leaf i z f n m =
+      by-size z n m (λ R. f R ∙ leaf-as R (shortLeaf k v) (short-kind names s at e k v h) (short-number names s at e k v h) ∙ subst (λ (j : ℕ). typeSize R type ≡ encodedSize R (shortEncoding j) type) (sym i) refl)
 
-  pub short-varint : e ≡ 1 → (z : Size) → ((t : Tree) → kindOf t ≡ k → numberOf t ≡ v → z ≡ Bounded 8 (varintEnd t)) → (n : ℕ) → n ≡ at + 4
+  pub short-varint : e ≡ 1 → (z : Size) → z ≡ Bounded 8 (varintEnd (leaf (leafOf k v))) → (n : ℕ) → n ≡ at + 4
       → Settles names s at (Settled.Is record { worked = Sized z; next = n })
   unfolding encodedSize
   short-varint i z f n m =
-      by-size z n m (λ R. ap Sized (f type (short-kind names s at e k v h) (short-number names s at e k v h)) ∙ subst (λ (j : ℕ). Sized (Bounded 8 (varintEnd type)) ≡ encodedSize R (shortEncoding j) type) (sym i) refl)
+      by-size z n m (λ R. ap Sized (f ∙ ap (Bounded 8) (varint-as type (short-kind names s at e k v h) (short-number names s at e k v h))) ∙ subst (λ (j : ℕ). Sized (Bounded 8 (varintEnd type)) ≡ encodedSize R (shortEncoding j) type) (sym i) refl)
 
-  pub short-zigzag : (e ≡ 0 → ⊥) → (e ≡ 1 → ⊥) → (z : Size) → ((t : Tree) → kindOf t ≡ k → numberOf t ≡ v → z ≡ Bounded 8 (zigZagEnd t)) → (n : ℕ) → n ≡ at + 4
+  pub short-zigzag : (e ≡ 0 → ⊥) → (e ≡ 1 → ⊥) → (z : Size) → z ≡ Bounded 8 (zigZagEnd (leaf (leafOf k v))) → (n : ℕ) → n ≡ at + 4
       → Settles names s at (Settled.Is record { worked = Sized z; next = n })
   unfolding encodedSize
   short-zigzag a b z f n m =
       let i : e ≡ 2 = omega (arith, short-bytes names s at e k v h .coded) in
-      by-size z n m (λ R. ap Sized (f type (short-kind names s at e k v h) (short-number names s at e k v h)) ∙ subst (λ (j : ℕ). Sized (Bounded 8 (zigZagEnd type)) ≡ encodedSize R (shortEncoding j) type) (sym i) refl)
+      by-size z n m (λ R. ap Sized (f ∙ ap (Bounded 8) (zigzag-as type (short-kind names s at e k v h) (short-number names s at e k v h))) ∙ subst (λ (j : ℕ). Sized (Bounded 8 (zigZagEnd type)) ≡ encodedSize R (shortEncoding j) type) (sym i) refl)
 
   pub short-name : e ≡ 0 → (p : ℕ) → p ≡ at + 2 → Settles names s at (Settled.At p)
   unfolding Settles fieldSize encodedSize

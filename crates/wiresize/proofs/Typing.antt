@@ -17,6 +17,7 @@ use Rattle.sizes.specs.declared.Operation.{Operation}
 use Rattle.sizes.specs.declared.Worked.{Worked}
 use Rattle.sizes.specs.declared.Worked.the-variants.{Sized, Over}
 use Rattle.sizes.specs.Sizes.{then, limitedSum, limitedProduct, multiplied, withoutLargest, Resolver, leafSize, countOf, wrapSize, typeSize, raised, widened, varintEnd, zigZagEnd, encodedSize}
+use Rattle.measures.specs.Heads.{wrapOf}
 use Rattle.measures.proofs.ByKind.{wrap-at}
 use Rattle.wiresize.proofs.Heads.{type-parts}
 use Rattle.wiresize.specs.Steps.{Headed, LeafTo, NameIn, OneIn, SidesIn, AllSized, Decides, codedAs}
@@ -53,12 +54,12 @@ module _ (R : Resolver) {t : Tree} where
 
   -- Array and Set
   pub run-sized : (x : Wrap) {u : Tree} {w : Worked} {k : ℕ} → t ≡ wrap x u → wrapKind x ≡ k → k ≡ 5 → w ≡ Sized (Open 8) → w ≡ typeSize R t
-  unfolding typeSize wrapSize
-  run-sized x e f g q = wrap-at x _ 5 (f ∙ g) q ∙ sym (ap (typeSize R) e)
+  unfolding typeSize wrapSize wrapOf
+  run-sized x e f g q = wrap-at x _ (f ∙ g) q ∙ sym (ap (typeSize R) e)
 
   pub set-sized : (x : Wrap) {u : Tree} {w : Worked} {k : ℕ} → t ≡ wrap x u → wrapKind x ≡ k → k ≡ 7 → w ≡ Sized (Open 8) → w ≡ typeSize R t
-  unfolding typeSize wrapSize
-  set-sized x e f g q = wrap-at x _ 7 (f ∙ g) q ∙ sym (ap (typeSize R) e)
+  unfolding typeSize wrapSize wrapOf
+  set-sized x e f g q = wrap-at x _ (f ∙ g) q ∙ sym (ap (typeSize R) e)
 
   pub wrap-sized : {x : Wrap} {u : Tree} {w child : Worked} → t ≡ wrap x u → w ≡ wrapSize (countOf x) child → child ≡ typeSize R u → w ≡ typeSize R t
   unfolding typeSize

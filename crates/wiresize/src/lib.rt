@@ -201,12 +201,10 @@ fn settle_short(place: usize, next: usize, encoding: u64, kind: u64, number: u64
     ensures { λ r. ⌜ ((names : ℕ) (s : List ℕ) (at : ℕ) → place ≡ at + 2 → next ≡ at + 4 → shortAt names s at ≡ Short.Is encoding kind number → Settles names s at r) ⌝ }
 {
     match encoding {
-        0 => {
-            if kind == 3 {
-                return Settled::At(place);
-            }
-            sized(measures::leaf_wire_size(kind, number), next)
-        }
+        0 => match kind {
+            3 => Settled::At(place),
+            _ => sized(measures::leaf_wire_size(kind, number), next),
+        },
         1 => sized(measures::varint_wire_size(kind, number), next),
         _ => sized(measures::zigzag_wire_size(kind, number), next),
     }
@@ -300,10 +298,10 @@ fn repeat_element(image: &[u8], element: Walked) -> Walked
 fn close_one(image: &[u8], kind: u64, child: Walked) -> Walked
     ensures { λ r. ⌜ Closes (now (image .entry)) kind child r ⌝ }
 {
-    if kind == 6 {
-        return repeat_element(image, child);
+    match kind {
+        6 => repeat_element(image, child),
+        _ => wrap_child(kind, child),
     }
-    wrap_child(kind, child)
 }
 
 // Types without parts, and those whose elements are not worked out: Array, Map and Set. No type holds a generic.
@@ -311,23 +309,19 @@ fn head_wire_size(head: Head) -> Decided
     ensures { λ r. ⌜ Decides head r ⌝ }
 {
     match head {
-        Head::Leaf(kind, _, number, next) => {
-            if kind == 3 {
-                return Decided::Name(number, next);
-            }
-            Decided::Leaf(measures::leaf_wire_size(kind, number), next)
-        }
+        Head::Leaf(kind, _, number, next) => match kind {
+            3 => Decided::Name(number, next),
+            _ => Decided::Leaf(measures::leaf_wire_size(kind, number), next),
+        },
         Head::One(kind, body) => match kind {
             5 => Decided::Pass(Size::Open(8)),
             7 => Decided::Pass(Size::Open(8)),
             _ => Decided::One(kind, body),
         },
-        Head::Two(kind, body) => {
-            if kind == 8 {
-                return Decided::Pass(Size::Open(8));
-            }
-            Decided::Sides(body)
-        }
+        Head::Two(kind, body) => match kind {
+            8 => Decided::Pass(Size::Open(8)),
+            _ => Decided::Sides(body),
+        },
         Head::Sized(body) => Decided::One(6, body),
         Head::Generic(_, _) => Decided::Pass(Size::Open(0)),
         Head::Refused(_, _) => Decided::Pass(Size::Open(0)),

@@ -1,37 +1,43 @@
-use mathlib.Core.Path.{sym, _∙_}
-use Rattle.sizes.specs.Sizes.{wrapSize, then}
-use Rattle.measures.proofs.ByKind.{wrap-at, wrap-last}
+use mathlib.Core.Path.{sym, ap}
+use Rattle.sizes.specs.declared.Worked.{Worked}
+use Rattle.sizes.specs.Sizes.{Count, wrapSize, then}
+use Rattle.measures.specs.Heads.{wrapOf}
+use Rattle.measures.proofs.ByKind.{wrap-rest}
 use borrow.Author.Needs.{needs}
 use Rattle.measures.proofs.wrap_wire_size.Statement.{statement}
 use Rattle.measures.proofs.wrap_wire_size.Tie as tie
 
 returns : tie.Need-returns
-unfolding wrapSize then
-returns c = λ w e a b. wrap-at w _ 4 (e ∙ c .before .match .keys1) (c .optional-wire-size .ensures)
+unfolding wrapSize then wrapOf
+returns c = rw (c .before .match .keys1) (c .optional-wire-size .ensures)
 
 returns-2 : tie.Need-returns-2
-unfolding wrapSize then
-returns-2 c = λ w e a b. wrap-at w _ 10 (e ∙ c .before .match .keys2) (c .multiply-wire-size .ensures)
+unfolding wrapSize then wrapOf
+returns-2 c = rw (c .before .match .keys2) (c .multiply-wire-size .ensures)
 
 returns-3 : tie.Need-returns-3
-unfolding wrapSize then
-returns-3 c = λ w e a b. wrap-at w _ 11 (e ∙ c .before .match .keys3) (c .multiply-wire-size2 .ensures)
+unfolding wrapSize then wrapOf
+returns-3 c = rw (c .before .match .keys3) (c .multiply-wire-size2 .ensures)
 
 returns-4 : tie.Need-returns-4
-unfolding wrapSize then
-returns-4 c = λ w e a b. wrap-at w _ 12 (e ∙ c .before .match .keys4) (c .multiply-wire-size3 .ensures)
+unfolding wrapSize then wrapOf
+returns-4 c = rw (c .before .match .keys4) (c .multiply-wire-size3 .ensures)
 
 returns-5 : tie.Need-returns-5
-unfolding wrapSize then
-returns-5 c = λ w e a b. wrap-at w _ 13 (e ∙ c .before .match .keys5) (c .multiply-wire-size4 .ensures)
+unfolding wrapSize then wrapOf
+returns-5 c = rw (c .before .match .keys5) (c .multiply-wire-size4 .ensures)
 
 returns-6 : tie.Need-returns-6
-unfolding wrapSize then
-returns-6 c = λ w e a b. wrap-at w _ 14 (e ∙ c .before .match .keys6) (c .multiply-wire-size5 .ensures)
+unfolding wrapSize then wrapOf
+returns-6 c = rw (c .before .match .keys6) (c .multiply-wire-size5 .ensures)
 
 returns-7 : tie.Need-returns-7
-unfolding wrapSize then
-returns-7 c = λ w e a b. wrap-at w _ 15 (wrap-last w (λ z. c .before .match .rest .0 .0 .0 .0 .0 .1 (sym e ∙ z)) (λ z. a (sym e ∙ z)) (λ z. b (sym e ∙ z)) (λ z. c .before .match .rest .0 .0 .0 .0 .1 (sym e ∙ z)) (λ z. c .before .match .rest .0 .0 .0 .1 (sym e ∙ z)) (λ z. c .before .match .rest .0 .0 .1 (sym e ∙ z)) (λ z. c .before .match .rest .0 .1 (sym e ∙ z)) (λ z. c .before .match .rest .1 (sym e ∙ z))) (c .multiply-wire-size6 .ensures)
+unfolding wrapSize then wrapOf
+returns-7 c = rw (c .before .match .keys7) (c .multiply-wire-size6 .ensures)
+
+returns-8 : tie.Need-returns-8
+unfolding wrapSize
+returns-8 c = rw (wrap-rest _ (c .match .rest .0 .0 .0 .0 .0 .0 .1) (c .match .rest .0 .0 .0 .0 .0 .1) (c .match .rest .0 .0 .0 .0 .1) (c .match .rest .0 .0 .0 .1) (c .match .rest .0 .0 .1) (c .match .rest .0 .1) (c .match .rest .1))
 
 pub wrap-wire-size-spec : {M : Type 1} → statement M
 wrap-wire-size-spec =
@@ -50,4 +56,5 @@ wrap-wire-size-spec =
     returns-4
     returns-5
     returns-6
-    returns-7)
+    returns-7
+    returns-8)

@@ -1,4 +1,5 @@
-use mathlib.Core.Path.{refl}
+use mathlib.Core.Path.{refl, _∙_}
+use Rattle.measures.proofs.ByKind.{leaf-as}
 use Rattle.wiresize.proofs.Typing.{decided-leaf, decided-pass, decided-name, decided-one, decided-sides, leaf-sized, run-sized, set-sized, map-sized, generic-sized, pair-map}
 use borrow.Author.Needs.{needs}
 use Rattle.wiresize.proofs.head_wire_size.Statement.{statement}
@@ -9,19 +10,19 @@ head-wire-size-spec =
     tie.close
     (tie.spec
     (λ c. search needs)
-    (λ c. decided-name _ _ (c .before .before .head .given .1) _ _ (c .if1 .taken, refl, refl))
     (λ c κs. search needs)
     (λ c. search needs)
     (λ c. search needs)
-    (λ c. decided-pass _ _ (c .before .before .head3 .given .1) _ (λ names t p. map-sized names (p .3) (pair-map _ (p .4) (c .if2 .taken)) refl))
     (λ c. search needs)
     (λ c. search needs)
     (λ c. search needs)
-    (λ c. decided-leaf _ _ (c .before .before .before .head .given .1) _ _ refl (λ names t p. leaf-sized names (p .1) (c .leaf-wire-size .ensures names _ (p .2) (p .3) (c .before .if1 .left))))
-    (λ c. decided-pass _ _ (c .before .before .head2 .given .1) _ (λ names t p. run-sized names _ (p .2) (p .3) (c .match2 .keys1) refl))
-    (λ c. decided-pass _ _ (c .before .before .head2 .given .1) _ (λ names t p. set-sized names _ (p .2) (p .3) (c .match2 .keys2) refl))
-    (λ c. decided-one _ _ (c .before .before .head2 .given .1) _ _ (refl, refl, c .match2 .rest .0 .1, c .match2 .rest .1))
-    (λ c. decided-sides _ _ (c .before .before .head3 .given .1) _ (refl, c .if2 .left))
+    (λ c. decided-name _ _ (c .before .before .head .given .1) _ _ (c .match2 .keys1, refl, refl))
+    (λ c. decided-leaf _ _ (c .before .before .before .head .given .1) _ _ refl (λ names t p. leaf-sized names (p .1) (c .leaf-wire-size .ensures names ∙ leaf-as names _ (p .2) (p .3))))
+    (λ c. decided-pass _ _ (c .before .before .head2 .given .1) _ (λ names t p. run-sized names _ (p .2) (p .3) (c .match3 .keys1) refl))
+    (λ c. decided-pass _ _ (c .before .before .head2 .given .1) _ (λ names t p. set-sized names _ (p .2) (p .3) (c .match3 .keys2) refl))
+    (λ c. decided-one _ _ (c .before .before .head2 .given .1) _ _ (refl, refl, c .match3 .rest .0 .1, c .match3 .rest .1))
+    (λ c. decided-pass _ _ (c .before .before .head3 .given .1) _ (λ names t p. map-sized names (p .3) (pair-map _ (p .4) (c .match4 .keys1)) refl))
+    (λ c. decided-sides _ _ (c .before .before .head3 .given .1) _ (refl, c .match4 .rest .1))
     (λ c. decided-one _ _ (c .before .head4 .given .1) _ _ (refl, refl))
     (λ c. decided-pass _ _ (c .enum-told .given .1) _ (λ names t p. generic-sized names (p .1) refl))
     (λ c. decided-pass _ _ (c .enum-told2 .given .1) _ (λ names t p. absurd p)))

@@ -10,13 +10,13 @@ pub settle-short-spec : {M : Type 1} → statement M
 settle-short-spec =
     tie.close
     (tie.spec
+    (λ c κs. search needs)
+    (λ c κs. search needs)
+    (λ c κs. search needs)
+    (λ c κs. search needs)
+    (λ c κs. search needs)
+    (λ c κs. search needs)
     (λ c. λ names s at p n h. short-name names s at _ _ _ h (c .before .match .keys1) _ p)
-    (λ c κs. search needs)
-    (λ c κs. search needs)
-    (λ c κs. search needs)
-    (λ c κs. search needs)
-    (λ c κs. search needs)
-    (λ c κs. search needs)
-    (λ c. λ names s at p n h. subst (λ (x : Settled). Settles names s at x) (sym (c .sized .ensures)) (short-leaf names s at _ _ _ h (c .before .before .before .match .keys1) (c .before .before .if1 .left) _ (c .before .leaf-wire-size .ensures) _ n))
+    (λ c. λ names s at p n h. subst (λ (x : Settled). Settles names s at x) (sym (c .sized .ensures)) (short-leaf names s at _ _ _ h (c .before .before .before .match .keys1) _ (c .before .leaf-wire-size .ensures) _ n))
     (λ c. λ names s at p n h. subst (λ (x : Settled). Settles names s at x) (sym (c .sized2 .ensures)) (short-varint names s at _ _ _ h (c .before .before .match .keys2) _ (c .before .varint-wire-size .ensures) _ n))
     (λ c. λ names s at p n h. subst (λ (x : Settled). Settles names s at x) (sym (c .sized3 .ensures)) (short-zigzag names s at _ _ _ h (c .before .before .match .rest .0 .1) (c .before .before .match .rest .1) _ (c .before .zigzag-wire-size .ensures) _ n)))

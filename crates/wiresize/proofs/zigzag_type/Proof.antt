@@ -1,5 +1,7 @@
 use mathlib.Core.Path.{sym, ap, _∙_}
+use Rattle.sizes.specs.declared.Size.the-variants.{Bounded}
 use Rattle.sizes.specs.declared.Worked.the-variants.{Sized}
+use Rattle.measures.proofs.ByKind.{zigzag-as}
 use Rattle.wiresize.proofs.Heads.{type-kind}
 use borrow.Author.Needs.{needs}
 use Rattle.wiresize.proofs.zigzag_type.Statement.{statement}
@@ -13,4 +15,4 @@ zigzag-type-spec =
     (λ c κs. search needs)
     (λ c κs. search needs)
     (λ c κs. search needs)
-    (λ c. record { passed = λ t end q. let k = type-kind _ _ _ _ (c .before .before .before .read-head .ensures) t end q in let p = c .pass-headed .ensures .passed t end q in (p .0 ∙ ap Sized (c .before .zigzag-wire-size .ensures t (k .0 ∙ sym (c .before .before .kind-and-number .ensures .0)) (k .1 ∙ sym (c .before .before .kind-and-number .ensures .1))), p .1) }))
+    (λ c. record { passed = λ t end q. let k = type-kind _ _ _ _ (c .before .before .before .read-head .ensures) t end q in let p = c .pass-headed .ensures .passed t end q in (p .0 ∙ ap Sized (c .before .zigzag-wire-size .ensures ∙ ap (Bounded 8) (zigzag-as t (k .0 ∙ sym (c .before .before .kind-and-number .ensures .0)) (k .1 ∙ sym (c .before .before .kind-and-number .ensures .1)))), p .1) }))
