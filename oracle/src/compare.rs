@@ -1,14 +1,14 @@
 //! Runs the library over images beside the Rust and stops at a difference.
 
 use std::ops::ControlFlow;
-use std::sync::atomic::{AtomicBool, Ordering};
+use std::sync::atomic::{AtomicU64, Ordering};
 
 use crate::answer::{Answer, Whole, PROGRAM_PLACES};
 use crate::generate::{batch, Families};
 use crate::library::{calls, expected, Call, Library, Reply};
 use crate::shrink::shrink;
 use crate::tally::{Tally, COLUMNS, TOO_LONG};
-use crate::workers::{in_parallel, THREADS};
+use crate::workers::{in_parallel, on_long_stack, THREADS};
 
 /// Which images to run over.
 #[derive(Debug, Clone, Copy)]
@@ -34,18 +34,48 @@ pub struct Outcome {
     pub tally: Tally,
     /// Calls, by the number that they had to answer.
     pub calls: [u64; COLUMNS],
+    /// Images that the run was to take.
+    pub asked: u64,
+    /// The number of the first image that differs; the workers take turns.
+    pub first: Option<u64>,
+    /// The difference there, made as small as the library lets it.
     pub difference: Option<Difference>,
 }
 
-fn joined(outcomes: Vec<Outcome>) -> Outcome {
-    let mut all = Outcome::default();
+impl Outcome {
+    /// Whether every image was asked for and answered alike.
+    pub fn passed(&self) -> bool {
+        self.difference.is_none() && self.complete()
+    }
+
+    pub fn complete(&self) -> bool {
+        self.tally.images() == self.asked
+    }
+}
+
+/// One outcome of the workers' own. Of several differences that of the lowest
+/// image counts, whichever thread came first.
+fn joined(outcomes: Vec<Outcome>, asked: u64, ours: Library) -> Outcome {
+    let mut all = Outcome {
+        asked,
+        ..Outcome::default()
+    };
     for outcome in outcomes {
         all.tally.add(&outcome.tally);
         for (count, more) in all.calls.iter_mut().zip(outcome.calls) {
             *count += more;
         }
-        all.difference = all.difference.or(outcome.difference);
+        let earlier = match (outcome.first, all.first) {
+            (Some(number), Some(first)) => number < first,
+            (number, _) => number.is_some(),
+        };
+        if earlier {
+            (all.first, all.difference) = (outcome.first, outcome.difference);
+        }
     }
+    all.difference = all
+        .difference
+        .map(|difference| on_long_stack(|| shrunk(difference, ours)));
     all
 }
 
@@ -75,28 +105,27 @@ pub fn each_image(
 
 /// Compares a library with the Rust on generated images.
 pub fn compare(selection: Selection, ours: Library) -> Outcome {
-    let stop = AtomicBool::new(false);
-    joined(in_parallel(|worker| {
-        let mut pair = Pair::new(ours);
-        each_image(selection, worker, |family, image| {
-            pair.run(image, family, &stop)
-        });
+    let lowest = AtomicU64::new(u64::MAX);
+    let outcomes = in_parallel(|worker| {
+        let mut pair = Pair::new(ours, worker, &lowest);
+        each_image(selection, worker, |family, image| pair.run(image, family));
         pair.outcome
-    }))
+    });
+    joined(outcomes, selection.count, ours)
 }
 
 /// Compares on all images of up to `bytes` bytes; the family does not count.
 pub fn exhaustive(bytes: usize, ours: Library) -> Outcome {
-    let stop = AtomicBool::new(false);
-    joined(in_parallel(|worker| {
-        let mut pair = Pair::new(ours);
+    let lowest = AtomicU64::new(u64::MAX);
+    let outcomes = in_parallel(|worker| {
+        let mut pair = Pair::new(ours, worker, &lowest);
         for length in 0..=bytes {
             let mut image = vec![0; length];
             let mut turn = 0;
             loop {
                 // The workers share the images by their last byte.
                 let mine = turn % THREADS == worker;
-                if mine && pair.run(&image, 0, &stop).is_break() {
+                if mine && pair.run(&image, 0).is_break() {
                     return pair.outcome;
                 }
                 turn += 1;
@@ -106,7 +135,9 @@ pub fn exhaustive(bytes: usize, ours: Library) -> Outcome {
             }
         }
         pair.outcome
-    }))
+    });
+    let asked = (0..=bytes).map(|length| 256u64.pow(length as u32)).sum();
+    joined(outcomes, asked, ours)
 }
 
 /// The next image of this length, the last byte counting up first.
@@ -120,32 +151,43 @@ fn advance(image: &mut [u8]) -> bool {
     false
 }
 
-struct Pair {
+struct Pair<'a> {
     ours: Library,
+    /// The number of the next image.
+    number: u64,
+    /// The lowest number of an image that differs.
+    lowest: &'a AtomicU64,
     outcome: Outcome,
 }
 
-impl Pair {
-    fn new(ours: Library) -> Self {
+impl<'a> Pair<'a> {
+    fn new(ours: Library, worker: u64, lowest: &'a AtomicU64) -> Self {
         Self {
             ours,
+            number: worker,
+            lowest,
             outcome: Outcome::default(),
         }
     }
 
-    fn run(&mut self, image: &[u8], family: usize, stop: &AtomicBool) -> ControlFlow<()> {
+    /// Runs over one image; breaks off at one that differs, and past the
+    /// lowest that does.
+    fn run(&mut self, image: &[u8], family: usize) -> ControlFlow<()> {
+        if self.number > self.lowest.load(Ordering::Relaxed) {
+            return ControlFlow::Break(());
+        }
         let whole = worked_out(image, self.ours);
         let column = column(&whole, self.ours);
         self.outcome.tally.count(family, column);
         self.outcome.tally.look_into(&whole);
         let differs = first_difference(image, &whole, self.ours, &mut self.outcome.calls);
         if differs.is_some() {
-            stop.store(true, Ordering::Relaxed);
-            self.outcome.difference = smallest_difference(image, self.ours);
-        }
-        if stop.load(Ordering::Relaxed) {
+            self.lowest.fetch_min(self.number, Ordering::Relaxed);
+            self.outcome.first = Some(self.number);
+            self.outcome.difference = differs;
             return ControlFlow::Break(());
         }
+        self.number += THREADS;
         ControlFlow::Continue(())
     }
 }
@@ -177,7 +219,7 @@ fn first_difference(
     whole: &Whole,
     ours: Library,
     counts: &mut [u64; COLUMNS],
-) -> Option<(Call, Reply, Reply)> {
+) -> Option<Difference> {
     for call in calls(whole, ours.check.is_some()) {
         let Ok(expected) = expected(whole, call) else {
             counts[TOO_LONG] += 1;
@@ -186,26 +228,39 @@ fn first_difference(
         counts[expected.verdict.number as usize] += 1;
         let reply = ours.reply(image, call);
         if reply != expected {
-            return Some((call, expected, reply));
+            return Some(Difference {
+                image: image.to_vec(),
+                call,
+                expected,
+                ours: reply,
+            });
         }
     }
     None
 }
 
+fn difference_on(image: &[u8], ours: Library) -> Option<Difference> {
+    let whole = worked_out(image, ours);
+    first_difference(image, &whole, ours, &mut [0; COLUMNS])
+}
+
+/// The smallest image found on which the library errs, from one on which it
+/// did; that one itself if it errs no more.
+fn shrunk(difference: Difference, ours: Library) -> Difference {
+    let image = difference.image.clone();
+    let mut smallest = difference;
+    shrink(&image, &mut |tried| match difference_on(tried, ours) {
+        Some(smaller) => {
+            smallest = smaller;
+            true
+        }
+        None => false,
+    });
+    smallest
+}
+
 /// Shrinks an image while the library answers it wrongly; none if it does
 /// not to begin with.
 pub fn smallest_difference(image: &[u8], ours: Library) -> Option<Difference> {
-    let difference = |image: &[u8]| {
-        let whole = worked_out(image, ours);
-        first_difference(image, &whole, ours, &mut [0; COLUMNS])
-    };
-    difference(image)?;
-    let image = shrink(image, &|tried| difference(tried).is_some());
-    let (call, expected, ours) = difference(&image)?;
-    Some(Difference {
-        image,
-        call,
-        expected,
-        ours,
-    })
+    difference_on(image, ours).map(|difference| shrunk(difference, ours))
 }

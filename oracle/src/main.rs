@@ -234,14 +234,15 @@ fn run_program(options: &[String]) -> Result<bool, Failure> {
     }
     let seconds = start.elapsed().as_secs_f64();
     let verdict = match outcome.wrong {
-        None => "no difference",
-        Some(_) => "DIFFERENT",
+        Some(_) => "DIFFERENT".into(),
+        None if outcome.complete() => "no difference".into(),
+        None => format!("INCOMPLETE, {} asked", outcome.asked),
     };
     println!(
         "program: {} images, {} left out as too long, {verdict}, {seconds:.1} s",
         outcome.images, outcome.too_long
     );
-    Ok(outcome.wrong.is_none())
+    Ok(outcome.passed())
 }
 
 fn run_answer() -> Result<(), Failure> {
@@ -264,13 +265,14 @@ fn report(command: &str, outcome: &Outcome, start: Instant) -> bool {
     println!("calls {}", by_number(&outcome.calls));
     let images = outcome.tally.images();
     let seconds = start.elapsed().as_secs_f64();
-    let verdict = match outcome.difference {
-        None => "no difference",
-        Some(_) => "DIFFERENT",
+    let verdict = match outcome.first {
+        Some(number) => format!("DIFFERENT on image {number}"),
+        None if outcome.complete() => "no difference".into(),
+        None => format!("INCOMPLETE, {} asked", outcome.asked),
     };
     let rate = images as f64 / seconds;
     println!("{command}: {images} images, {verdict}, {seconds:.1} s, {rate:.0} images/s");
-    outcome.difference.is_none()
+    outcome.passed()
 }
 
 /// Counts that are not 0, by the number answered.

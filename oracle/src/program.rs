@@ -20,6 +20,8 @@ pub struct Wrong {
 
 #[derive(Debug, Default)]
 pub struct Outcome {
+    /// Images that the run was to take, the special ones among them.
+    pub asked: u64,
     pub images: u64,
     /// Images left out because the check would take too long.
     pub too_long: u64,
@@ -30,8 +32,12 @@ pub struct Outcome {
 /// first that it answers wrongly. `program` starts it anew for each image.
 pub fn run(selection: Selection, program: &(dyn Fn() -> Command + Sync)) -> io::Result<Outcome> {
     on_long_stack(|| {
-        let mut outcome = Outcome::default();
-        for image in specials() {
+        let specials = specials();
+        let mut outcome = Outcome {
+            asked: specials.len() as u64 + selection.count,
+            ..Outcome::default()
+        };
+        for image in specials {
             if outcome.run_one(&image, program)?.is_break() {
                 return Ok(outcome);
             }
@@ -56,6 +62,15 @@ pub fn run(selection: Selection, program: &(dyn Fn() -> Command + Sync)) -> io::
 }
 
 impl Outcome {
+    /// Whether every image was asked for and answered alike.
+    pub fn passed(&self) -> bool {
+        self.wrong.is_none() && self.complete()
+    }
+
+    pub fn complete(&self) -> bool {
+        self.images + self.too_long == self.asked
+    }
+
     fn run_one(
         &mut self,
         image: &[u8],

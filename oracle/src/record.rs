@@ -63,10 +63,13 @@ pub fn write_images(selection: Selection, folder: &Path) -> io::Result<()> {
     })
 }
 
+/// Writes each image of a selection; an error if there were more or fewer.
 fn each(selection: Selection, write: &mut dyn FnMut(&[u8]) -> io::Result<()>) -> io::Result<()> {
     let mut result = Ok(());
+    let mut images = 0;
     for worker in 0..THREADS {
         each_image(selection, worker, |_, image| {
+            images += 1;
             result = write(image);
             match result {
                 Ok(()) => ControlFlow::Continue(()),
@@ -74,10 +77,16 @@ fn each(selection: Selection, write: &mut dyn FnMut(&[u8]) -> io::Result<()>) ->
             }
         });
         if result.is_err() {
-            break;
+            return result;
         }
     }
-    result
+    match images == selection.count {
+        true => Ok(()),
+        false => Err(io::Error::other(format!(
+            "{images} images of {}",
+            selection.count
+        ))),
+    }
 }
 
 fn write_lines(image: &[u8], longest: usize, out: &mut dyn Write) -> io::Result<()> {

@@ -7,8 +7,9 @@ const SMALL: usize = 64;
 /// hold it together does not take hours.
 const EFFORT: usize = 2 << 30;
 
-/// The smallest image found by taking bytes out and lowering them.
-pub fn shrink(image: &[u8], shows: &dyn Fn(&[u8]) -> bool) -> Vec<u8> {
+/// Tries images with bytes taken out or lowered; each that shows is the next
+/// to start from, so the last that shows is the smallest found.
+pub fn shrink(image: &[u8], shows: &mut dyn FnMut(&[u8]) -> bool) {
     let mut shrinker = Shrinker {
         best: image.to_vec(),
         effort: EFFORT,
@@ -22,7 +23,7 @@ pub fn shrink(image: &[u8], shows: &dyn Fn(&[u8]) -> bool) -> Vec<u8> {
             shrinker.lower_and_take_out();
         }
         if shrinker.best == before {
-            return before;
+            return;
         }
     }
 }
@@ -30,7 +31,7 @@ pub fn shrink(image: &[u8], shows: &dyn Fn(&[u8]) -> bool) -> Vec<u8> {
 struct Shrinker<'a> {
     best: Vec<u8>,
     effort: usize,
-    shows: &'a dyn Fn(&[u8]) -> bool,
+    shows: &'a mut dyn FnMut(&[u8]) -> bool,
 }
 
 impl Shrinker<'_> {

@@ -1,5 +1,7 @@
 //! The comparer and the shrinker, with libraries that are wrong on purpose.
 
+use std::sync::atomic::{AtomicU64, Ordering};
+
 use oracle::answer::Part;
 use oracle::compare::{compare, exhaustive, smallest_difference, Outcome, Selection};
 use oracle::generate::{family_named, Families};
@@ -43,6 +45,7 @@ fn reference_equals_itself() {
     let outcome = compare(selection, REFERENCE);
     assert_eq!(outcome.difference, None);
     assert_eq!(outcome.tally.images(), selection.count);
+    assert!(outcome.passed());
     let unions = outcome.tally.unions();
     assert!(unions.iter().all(|&turns| turns > 50), "{unions:?}");
     let first_steps = outcome.tally.first_steps();
@@ -259,4 +262,110 @@ fn all_images_of_two_bytes() {
     let outcome = exhaustive(2, SIZES);
     assert_eq!(outcome.difference, None);
     assert_eq!(outcome.tally.images(), 1 + 256 + 65_536);
+}
+
+/// Errs on one call of `check` and on no other, whatever the image.
+fn errs_once(count: &AtomicU64, call: u64, sizes: &mut [u64], verdict: Verdict) -> Verdict {
+    match count.fetch_add(1, Ordering::Relaxed) == call {
+        false => verdict,
+        true => {
+            sizes.fill(1);
+            Verdict {
+                number: 99,
+                value: 99,
+            }
+        }
+    }
+}
+
+/// A difference is kept though the library never errs again.
+#[test]
+fn one_wrong_call_is_told() {
+    static CALLS: AtomicU64 = AtomicU64::new(0);
+    let library = Library {
+        sizes: |image, sizes| {
+            let verdict = (REFERENCE.sizes)(image, sizes);
+            errs_once(&CALLS, 5_000, sizes, verdict)
+        },
+        ..SIZES
+    };
+    let outcome = compare(SELECTION, library);
+    assert!(!outcome.passed());
+    assert!(outcome.first.is_some());
+    let difference = outcome.difference.expect("a difference");
+    assert_eq!(difference.ours.verdict.number, 99);
+    assert!(
+        CALLS.load(Ordering::Relaxed) > 5_001,
+        "shrinking called again"
+    );
+    // Asked once more, it answers rightly.
+    assert_eq!(smallest_difference(&difference.image, library), None);
+}
+
+#[test]
+fn one_wrong_call_is_told_of_all_short_images() {
+    static CALLS: AtomicU64 = AtomicU64::new(0);
+    let library = Library {
+        sizes: |image, sizes| {
+            let verdict = (REFERENCE.sizes)(image, sizes);
+            errs_once(&CALLS, 100_000, sizes, verdict)
+        },
+        ..SIZES
+    };
+    let outcome = exhaustive(2, library);
+    assert!(!outcome.passed());
+    let difference = outcome.difference.expect("a difference");
+    assert_eq!(difference.ours.verdict.number, 99);
+}
+
+/// The call that showed a difference is the last wrong one: the image stays.
+#[test]
+fn shrinking_begins_at_what_was_seen() {
+    static CALLS: AtomicU64 = AtomicU64::new(0);
+    let library = Library {
+        sizes: |image, sizes| {
+            let verdict = (REFERENCE.sizes)(image, sizes);
+            errs_once(&CALLS, 0, sizes, verdict)
+        },
+        ..SIZES
+    };
+    let image = [0, 1, 4, 0, 0, 1, 0];
+    let difference = smallest_difference(&image, library).expect("a difference");
+    assert_eq!(difference.image, image);
+    assert_eq!(difference.ours.verdict.number, 99);
+}
+
+/// Of many images that differ the same one is told, whatever the threads do.
+#[test]
+fn first_image_that_differs_is_the_same_each_time() {
+    let library = Library {
+        sizes: |image, sizes| {
+            let verdict = (REFERENCE.sizes)(image, sizes);
+            match verdict.number == 0 && image.len() % 50 == 49 {
+                true => refused(99),
+                false => verdict,
+            }
+        },
+        ..SIZES
+    };
+    let runs: Vec<Outcome> = (0..4).map(|_| compare(SELECTION, library)).collect();
+    assert!(runs[0].first.is_some());
+    for run in &runs {
+        assert_eq!(run.first, runs[0].first);
+        assert_eq!(run.difference, runs[0].difference);
+    }
+}
+
+/// A run that takes fewer images than asked does not pass.
+#[test]
+fn missing_images_are_told() {
+    let selection = Selection {
+        count: 100,
+        ..SELECTION
+    };
+    let mut outcome = compare(selection, SIZES);
+    assert!(outcome.passed());
+    outcome.asked += 1;
+    assert!(!outcome.passed());
+    assert_eq!(outcome.difference, None);
 }

@@ -1,6 +1,7 @@
 //! Running a program on images, and the records of what it has to write.
 
 use std::process::Command;
+use std::sync::atomic::{AtomicU64, Ordering};
 
 use oracle::answer::{answer, lines, PROGRAM_PLACES};
 use oracle::compare::Selection;
@@ -28,6 +29,7 @@ fn the_oracle_writes_its_own_lines() {
     assert_eq!(outcome.wrong, None);
     let images = outcome.images + outcome.too_long;
     assert_eq!(images, SELECTION.count + specials().len() as u64);
+    assert!(outcome.passed());
 }
 
 #[test]
@@ -36,6 +38,19 @@ fn another_output_is_seen() {
     let wrong = outcome.wrong.expect("it writes something else");
     assert!(wrong.image.is_empty());
     assert_eq!(wrong.expected, "vexil-typeck 1\nrefused 2 0\n");
+}
+
+/// A program that errs on one run and on no other is told.
+#[test]
+fn one_wrong_output_is_seen() {
+    let runs = AtomicU64::new(0);
+    let program = || match runs.fetch_add(1, Ordering::Relaxed) {
+        150 => oracle("families"),
+        _ => oracle("answer"),
+    };
+    let outcome = run(SELECTION, &program).expect("it runs");
+    assert!(outcome.wrong.is_some());
+    assert!(!outcome.passed());
 }
 
 #[test]
