@@ -12,8 +12,8 @@ use crate::ir::{
     CompiledSchema, Encoding, FieldDef, ImplDef, ResolvedType, TypeDef, TypeId, WireSize,
 };
 use crate::model::{self, fixed, generic, pair, wrap, Field, Impl, Schema, Slot, Stored, Tree};
-use crate::smol_str::SmolStr;
 use crate::span::Span;
+use smol_str::SmolStr;
 
 /// What an image cannot hold.
 #[derive(Debug, Clone, Copy, PartialEq, Eq)]
