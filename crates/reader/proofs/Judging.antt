@@ -2,11 +2,10 @@
 use Prim.Native.Nat.{ℕ, zero, suc, _+_, _≤_, _<_, _^_}
 use mathlib.Core.Path.{_≡_, refl, sym, ap, ap₂, subst, fun-ext, _∙_}
 use mathlib.Core.List.{List}
-use mathlib.Core.Bool.{Bool, false, not}
+use mathlib.Core.Bool.{false}
 use mathlib.Core.Logic.{by-cases}
 use native.Mathlib.Omega.{arith}
 use native.Mathlib.Decide.{decLt}
-use borrow.Author.Tests.{not-false}
 use lib.ListN.{length, getD, drop, replicate, length-map, List·getD-eq-default, List·getD-append}
 use lib.Seq.{sets, sets-eq, length-sets}
 use Rattle.number.specs.Grammar.{slot, count, give, _>>=_, number, here, many, Outcome, done, refused, read}
@@ -24,9 +23,7 @@ use Rattle.image.specs.declared.Framed.{Framed}
 use Rattle.image.proofs.Framing.{Accepted, accepted, FrontParts, front-parts, declared-parts}
 use Rattle.image.proofs.Tables.{placed-is, entry}
 use Rattle.loops.specs.Leads.{loopOf, slotsOf, Located}
-use Rattle.loops.specs.Marks.{noneLeads}
 use Rattle.loops.specs.Refusals.{slots-past}
-use Rattle.loops.proofs.Leading.{nothing-looped}
 use Rattle.reader.specs.Reading.{isEmpty, lostName, judged, answered, readingOf, schemaOr, schemaOf, startsOr, startsTable}
 use Rattle.reader.specs.Refusals.{Judged}
 use Rattle.reader.specs.Promise.{Seen, Promise, Answered}
@@ -129,13 +126,6 @@ module _ (s starts : List ℕ) (f : Frame) (v : Seen s starts f) where
       → loopOf sort (schemaOf s .finds) (slotOf (schemaOf s)) (length (schemaOf s .slots)) ≡ r
   told-loop sort r h =
       sym (h (schemaOf s .finds) (fronts .findsEnd) finds-read ∙ ap₂ (λ (x : ℕ → Slot) (k : ℕ). loopOf sort (schemaOf s .finds) x k) slots-same count-is)
-
-  pub told-none : (sort : Sort) (b : Bool)
-      → ((names : ℕ) → Located names (f .slots) s starts → b ≡ noneLeads sort (slotsOf names (f .slots) s starts) (f .slots))
-      → not b ≡ false → loopOf sort (schemaOf s .finds) (slotOf (schemaOf s)) (length (schemaOf s .slots)) ≡ Lowest.Nowhere
-  told-none sort b h e =
-      told-loop sort Lowest.Nowhere
-      (λ fs n k. sym (nothing-looped sort (slotsOf (f .names) (f .slots) s starts) fs (f .slots) (slots-past (f .names) (f .slots) s starts) (sym (h (f .names) located) ∙ not-false b e)))
 
   pub reading-is : judged (schemaOf s) f ≡ readingOf s
   reading-is = ap (judged (schemaOf s)) (v .frame) ∙ schema-read s record { image = v .image; end = v .end; reads = v .reads }

@@ -81,6 +81,9 @@ module _ (S : Schema) where
       is-not-looped sort (S .finds) (slotOf S) (length (S .slots)) past,
     )
 
+pub refused-at : (k : ℕ) (a : Lowest) (after : Reading) (p : ℕ) → a ≡ Lowest.At p → Reading.Refused k p ≡ orRefuse k a after
+refused-at k a after p e = rw e
+
 -- a refusal of another number comes after
 passed : (k : ℕ) (a : Lowest) (after : Reading) (r p : ℕ) → (k ≡ r → ⊥) → orRefuse k a after ≡ Reading.Refused r p
     → (a ≡ Lowest.Nowhere) × (after ≡ Reading.Refused r p)
@@ -120,6 +123,11 @@ module _ (S : Schema) (f : Frame) where
     pub none-refused : Loops Resolved ≡ Lowest.Nowhere → Loops Expression ≡ Lowest.Nowhere → Reading.Accepted f ≡ judged S f
     unfolding judged
     none-refused g h = rw (e, g, h)
+
+  pub judged-by : (a b d : Lowest) (x y z : Reading) → Names ≡ a → Loops Resolved ≡ b → Loops Expression ≡ d
+      → x ≡ orRefuse 9 d (Reading.Accepted f) → y ≡ orRefuse 8 b x → z ≡ orRefuse 7 a y → z ≡ judged S f
+  unfolding judged
+  judged-by a b d x y z n l e p q r = r ∙ ap (orRefuse 7 a) (q ∙ ap (orRefuse 8 b) p) ∙ rw (n, l, e)
 
   -- nothing was found where the answer is acceptance
   pub record Clear (g : Frame) : Type 0 where

@@ -9,8 +9,8 @@ ghost use mathlib.Core.List.{List};
 ghost use Prim.Native.Nat.{ℕ, _≤_};
 ghost use lib.ListN.{length};
 ghost use Rattle.number.specs.Grammar.{slot, number, many, done, read};
-ghost use Rattle.loops.specs.Leads.{slotsOf, Located};
-ghost use Rattle.reader.specs.Reading.{lost, lostName, judged, readingOf, schemaOf, startsTable};
+ghost use Rattle.loops.specs.Leads.{loopOf, slotsOf, Located};
+ghost use Rattle.reader.specs.Reading.{lost, lostName, orRefuse, judged, readingOf, schemaOf, startsTable};
 ghost use Rattle.reader.specs.Refusals.{Judged};
 ghost use Rattle.reader.specs.Promise.{Seen, Answered};
 
@@ -67,6 +67,34 @@ fn lost_name(image: &[u8], starts: &[usize], count: usize, names: u64, finds: us
     Lowest::Nowhere
 }
 
+// The lowest slot on a loop. Most images have no slot that could be on one, and need no table.
+fn looped(
+    image: &[u8],
+    starts: &[usize],
+    count: usize,
+    names: u64,
+    finds: usize,
+    sort: Sort,
+) -> Lowest
+    requires { ⌜ (names ≤ 4096) × Located names count (now image) (now starts) ⌝ }
+    ensures { λ r. ⌜ ((fs : List ℕ) (n : ℕ) → read (many names (number slot 513)) (now (image .entry)) finds ≡ done fs n → r ≡ loopOf sort fs (slotsOf names count (now (image .entry)) (now (starts .entry))) count) ⌝ }
+{
+    if loops::none_leads(image, starts, count, sort) {
+        return Lowest::Nowhere;
+    }
+    loops::lowest_looped(image, starts, count, names, finds, sort)
+}
+
+// A refusal where something was found, else what comes after.
+fn or_refuse(number: u8, found: Lowest, after: Reading) -> Reading
+    ensures { λ r. ⌜ r ≡ orRefuse number found after ⌝ }
+{
+    match found {
+        Lowest::At(p) => Reading::Refused(number, p),
+        Lowest::Nowhere => after,
+    }
+}
+
 // Refusals 7, 8 and 9, in this order.
 fn judge(image: &[u8], starts: &[usize], frame: Frame) -> Reading
     requires { ⌜ Seen (now image) (now starts) frame ⌝ }
@@ -75,23 +103,14 @@ fn judge(image: &[u8], starts: &[usize], frame: Frame) -> Reading
     let names = frame.names;
     let finds = frame.finds;
     let count = frame.slots as usize;
-    if let Lowest::At(n) = lost_name(image, starts, count, names, finds) {
-        return Reading::Refused(7, n);
-    }
-    // Most images have no slot that could be on a loop, and need no table.
-    if !loops::none_leads(image, starts, count, Sort::Resolved) {
-        let newtype = loops::lowest_looped(image, starts, count, names, finds, Sort::Resolved);
-        if let Lowest::At(i) = newtype {
-            return Reading::Refused(8, i);
-        }
-    }
-    if !loops::none_leads(image, starts, count, Sort::Expression) {
-        let alias = loops::lowest_looped(image, starts, count, names, finds, Sort::Expression);
-        if let Lowest::At(i) = alias {
-            return Reading::Refused(9, i);
-        }
-    }
-    Reading::Accepted(frame)
+    let lost = lost_name(image, starts, count, names, finds);
+    let newtype = looped(image, starts, count, names, finds, Sort::Resolved);
+    let alias = looped(image, starts, count, names, finds, Sort::Expression);
+    or_refuse(
+        7,
+        lost,
+        or_refuse(8, newtype, or_refuse(9, alias, Reading::Accepted(frame))),
+    )
 }
 
 // Reads an image into a table of where its slots start. What a refusal leaves in the table is not said.
