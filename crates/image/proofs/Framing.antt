@@ -15,7 +15,8 @@ use Rattle.number.specs.Answers.{next}
 use Rattle.number.specs.declared.Next.{Next}
 use Rattle.number.proofs.Reading.{read-bind, read-number, read-done, then-on, then-stop, then-done, number-on, number-refused, next-at, next-refused, not-done, given}
 use Rattle.number.proofs.InRange.{below-is}
-use Rattle.image.specs.Image.{Front, frontWith, frontAt, Placed, placedAt, Declared, declaredAt, Image, endAt, imageAt, whole, imageOf, startsOf, frameIn, framed, fronted, ended}
+use Rattle.image.specs.Image.{Front, frontWith, frontAt, Placed, placedAt, Declared, declaredAt, Image, endAt, imageAt, whole, imageOf, startsOf, readable, slotsAfter, readableSlots, frameIn, framed, fronted, ended}
+use Rattle.image.proofs.Tables.{readable-all}
 use Rattle.image.specs.declared.Framed.{Framed}
 use Rattle.image.specs.declared.Fronted.{Fronted}
 use Rattle.image.specs.declared.Ended.{Ended}
@@ -150,18 +151,17 @@ module _ (s : List ℕ) where
         last = w .1;
       }
 
-  -- a refusal says nothing of the table
-  refusal : (r q : ℕ) → imageOf s ≡ refused r q → (l l′ : List ℕ)
-      → (Framed.Refused r q ≡ framed (imageOf s)) × ((i : Image) (n : ℕ) → imageOf s ≡ done i n → l′ ≡ sets l 0 (startsOf (i .slots)))
-  refusal r q e l l′ = (sym (ap framed e), λ i n h. absurd (not-done e h))
+  -- what the code says of an image, and of a table that had l
+  abbrev pub Said : Framed → (l l′ : List ℕ) → Type 0
+  Said x l l′ = (x ≡ framed (imageOf s)) × (l′ ≡ sets l 0 (startsOf (readableSlots s)))
 
   too-big : 65536 < length s → imageOf s ≡ refused 1 0
   unfolding imageOf
   too-big h = simp (lt-ltb _ _ h)
 
-  pub big : 65536 < length s → (l l′ : List ℕ)
-      → (Framed.Refused 1 0 ≡ framed (imageOf s)) × ((i : Image) (n : ℕ) → imageOf s ≡ done i n → l′ ≡ sets l 0 (startsOf (i .slots)))
-  big h l l′ = refusal 1 0 (too-big h) l l′
+  pub big : 65536 < length s → (l : List ℕ) → Said (Framed.Refused 1 0) l l
+  unfolding readableSlots
+  big h l = (sym (ap framed (too-big h)), simp (lt-ltb _ _ h))
 
   module _ (h : length s ≤ 65536) where
     small : imageOf s ≡ whole s (andThen (read frontAt s 0) (λ f at. andThen (read (many (f .slotCount) (placedAt (f .names))) s at) (λ ss p. read (endAt f ss) s p)))
@@ -173,25 +173,34 @@ module _ (s : List ℕ) where
         inner (done f at) = read-bind (many (f .slotCount) (placedAt (f .names))) _ s at
         inner (refused r q) = refl
 
-    pub no-names : (r q : ℕ) → fronted (read frontAt s 0) ≡ Fronted.Refused r q → (l l′ : List ℕ)
-        → (Framed.Refused r q ≡ framed (imageOf s)) × ((i : Image) (n : ℕ) → imageOf s ≡ done i n → l′ ≡ sets l 0 (startsOf (i .slots)))
+    slots-after : {o : Outcome Front} → read frontAt s 0 ≡ o → readableSlots s ≡ slotsAfter s o
+    unfolding readableSlots
+    slots-after e = simp (le-ltb _ _ h) (ap (slotsAfter s) e)
+
+    pub no-names : (r q : ℕ) → fronted (read frontAt s 0) ≡ Fronted.Refused r q → (l : List ℕ) → Said (Framed.Refused r q) l l
     unfolding whole
-    no-names r q e l l′ = refusal r q (small ∙ ap (whole s) (then-stop _ _ (no-front r q e))) l l′
+    no-names r q e l =
+        let f = no-front r q e in (
+          sym (ap framed (small ∙ ap (whole s) (then-stop _ _ f))),
+          ap (λ (ss : List Placed). sets l 0 (startsOf ss)) (sym (slots-after f)),
+        )
 
     module _ (names finds c at : ℕ) (e : fronted (read frontAt s 0) ≡ Fronted.Read names finds c at) where
+      written : (l l′ : List ℕ) → l′ ≡ sets l 0 (startsOf (readable c (placedAt names) s at)) → l′ ≡ sets l 0 (startsOf (readableSlots s))
+      written l l′ w = w ∙ ap (λ (ss : List Placed). sets l 0 (startsOf ss)) (sym (slots-after (front-is names finds c at e .1)))
+
       pub no-slots : (r q : ℕ) → next (read (many c (placedAt names)) s at) ≡ Next.Refused r q → (l l′ : List ℕ)
-          → (Framed.Refused r q ≡ framed (imageOf s)) × ((i : Image) (n : ℕ) → imageOf s ≡ done i n → l′ ≡ sets l 0 (startsOf (i .slots)))
+          → l′ ≡ sets l 0 (startsOf (readable c (placedAt names) s at)) → Said (Framed.Refused r q) l l′
       unfolding whole
-      no-slots r q f l l′ = refusal r q (small ∙ ap (whole s) (then-on _ _ (front-is names finds c at e .1) ∙ then-stop _ _ (next-refused _ f))) l l′
+      no-slots r q f l l′ w =
+          (sym (ap framed (small ∙ ap (whole s) (then-on _ _ (front-is names finds c at e .1) ∙ then-stop _ _ (next-refused _ f)))), written l l′ w)
 
       pub image-read : (p : ℕ) → next (read (many c (placedAt names)) s at) ≡ Next.At p → (x : Framed) → ((fs : List ℕ) (ss : List Placed) → x ≡ framed (whole s (read (endAt (frontWith names finds fs c) ss) s p)))
-          → (l l′ : List ℕ) → ((xs : List Placed) (n : ℕ) → read (many c (placedAt names)) s at ≡ done xs n → l′ ≡ sets l 0 (startsOf xs))
-          → (x ≡ framed (imageOf s)) × ((i : Image) (n : ℕ) → imageOf s ≡ done i n → l′ ≡ sets l 0 (startsOf (i .slots)))
+          → (l l′ : List ℕ) → l′ ≡ sets l 0 (startsOf (readable c (placedAt names) s at)) → Said x l l′
       image-read p g x y l l′ w =
           let f = front-is names finds c at e in
           let a = next-at (read (many c (placedAt names)) s at) g in
-          let t : imageOf s ≡ whole s (read (endAt (frontWith names finds (f .0) c) (a .0)) s p) = small ∙ ap (whole s) (then-on _ _ (f .1) ∙ then-on _ _ (a .1)) in
-          (y (f .0) (a .0) ∙ sym (ap framed t), λ i n q. w (a .0) p (a .1) ∙ ap (λ (ss : List Placed). sets l 0 (startsOf ss)) (sym (ending-is (frontWith names finds (f .0) c) (a .0) p i n (whole-done _ i n (sym t ∙ q)) .slotsSame)))
+          (y (f .0) (a .0) ∙ sym (ap framed (small ∙ ap (whole s) (then-on _ _ (f .1) ∙ then-on _ _ (a .1)))), written l l′ w)
 
 -- the parts of a front that was read
 pub record FrontParts (s : List ℕ) (f : Front) : Type 0 where
@@ -259,3 +268,9 @@ accepted s i n e = by-cases (decLt 65536 (length s)) (λ h. absurd (not-done (to
           declaredRead = k .declaredRead;
           last = k .last;
         }
+
+-- its slots were all read
+pub all-readable : (s : List ℕ) (i : Image) (n : ℕ) → imageOf s ≡ done i n → readableSlots s ≡ i .slots
+all-readable s i n e =
+    let a = accepted s i n e in
+    slots-after s (a .few) (a .frontRead) ∙ readable-all (placedAt (i .front .names)) s (i .front .slotCount) (a .slotsPlace) (i .slots) (a .declarationsPlace) (a .slotsRead)

@@ -1,6 +1,6 @@
 -- The image: names, slots and declarations, and nothing after them. Refusals 1 to 6.
-use Prim.Native.Nat.{ℕ, _^_}
-use mathlib.Core.List.{List, map}
+use Prim.Native.Nat.{ℕ, zero, suc, _^_}
+use mathlib.Core.List.{List, [], _∷_, map}
 use mathlib.Core.Bool.{cond}
 use lib.ListN.{length}
 use lib.Dec.{ltb}
@@ -86,6 +86,23 @@ startsOf xs = map (λ x. x .start) xs
 
 abbrev pub contentsOf : List Placed → List Slot
 contentsOf xs = map (λ x. x .content) xs
+
+-- so many things of one kind, as far as they are read
+abbrev pub ahead : {A : Type 0} → Outcome A → (ℕ → List A) → List A
+ahead (done x n) later = x ∷ later n
+ahead (refused r p) later = []
+
+unfoldable pub readable : {A : Type 0} → (count : ℕ) → Grammar A → List ℕ → (at : ℕ) → List A
+readable zero g s at = []
+readable (suc n) g s at = ahead (read g s at) (λ next. readable n g s next)
+
+-- the slots of an image, as far as they are read
+abbrev pub slotsAfter : List ℕ → Outcome Front → List Placed
+slotsAfter s (done f at) = readable (f .slotCount) (placedAt (f .names)) s at
+slotsAfter s (refused r p) = []
+
+unfoldable pub readableSlots : List ℕ → List Placed
+readableSlots s = cond (ltb 65536 (length s)) [] (slotsAfter s (read frontAt s 0))
 
 -- the schema of an image
 unfoldable pub schemaIn : Image → Schema

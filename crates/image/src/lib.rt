@@ -8,7 +8,7 @@ ghost use lib.ListN.{set};
 ghost use lib.Seq.{sets};
 ghost use Rattle.number.specs.Grammar.{slot, number, many, done, read};
 ghost use Rattle.number.specs.Answers.{next};
-ghost use Rattle.image.specs.Image.{Placed, placedAt, startsOf, Image, frontAt, declaredAt, frontWith, endAt, whole, imageOf, framed, fronted, ended};
+ghost use Rattle.image.specs.Image.{Placed, placedAt, startsOf, readable, readableSlots, frontAt, declaredAt, frontWith, endAt, whole, imageOf, framed, fronted, ended};
 
 // Where the parts of an image stand: how many names, and the position of what they find; how many slots; how many
 // declarations, and their position.
@@ -73,17 +73,17 @@ fn note(starts: &mut [usize], i: u64, p: usize)
     }
 }
 
-// The position after the slots; where each starts is written into a table.
+// The position after the slots; where each starts is written into a table, as far as they are read.
 fn read_slots(image: &[u8], at: usize, count: u64, names: u64, starts: &mut [usize]) -> Next
     ensures end { λ r. ⌜ r ≡ next (read (many count (placedAt names)) (now (image .entry)) at) ⌝ }
-    ensures table { λ r. ⌜ ((xs : List Placed) (n : ℕ) → read (many count (placedAt names)) (now (image .entry)) at ≡ done xs n → now (starts .exit) ≡ sets (now (starts .entry)) 0 (startsOf xs)) ⌝ }
+    ensures table { λ _. ⌜ now (starts .exit) ≡ sets (now (starts .entry)) 0 (startsOf (readable count (placedAt names) (now (image .entry)) at)) ⌝ }
 {
     let mut p = at;
     let mut i: u64 = 0;
     while i < count {
-        note(starts, i, p);
         match slot::read_slot(image, p, names) {
             Next::At(after) => {
+                note(starts, i, p);
                 p = after;
                 i += 1;
             }
@@ -116,11 +116,10 @@ fn read_end(image: &[u8], at: usize, names: u64, finds: usize, slots: u64) -> Fr
     }
 }
 
-// Refusals 1 to 6. On acceptance the table holds where each slot starts, as far as it reaches; what a refusal leaves in
-// it is not said.
+// Refusals 1 to 6. Where the slots start is written into a table, as far as they are read and the table reaches.
 pub fn read_image(image: &[u8], starts: &mut [usize]) -> Framed
     ensures answer { λ r. ⌜ r ≡ framed (imageOf (now (image .entry))) ⌝ }
-    ensures table { λ r. ⌜ ((i : Image) (n : ℕ) → imageOf (now (image .entry)) ≡ done i n → now (starts .exit) ≡ sets (now (starts .entry)) 0 (startsOf (i .slots))) ⌝ }
+    ensures table { λ _. ⌜ now (starts .exit) ≡ sets (now (starts .entry)) 0 (startsOf (readableSlots (now (image .entry)))) ⌝ }
 {
     if 65536 < image.len() {
         return Framed::Refused(1, 0);

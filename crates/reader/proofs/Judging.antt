@@ -17,10 +17,10 @@ use Rattle.slot.specs.Slot.{Slot, empty, slotAt}
 use Rattle.graph.specs.declared.Lowest.{Lowest}
 use Rattle.graph.specs.Loops.{is-false}
 use Rattle.image.specs.Schema.{Schema, slotOf}
-use Rattle.image.specs.Image.{Image, imageOf, schemaIn, frameIn, framed, startsOf, contentsOf, Placed, placedAt, Declared, declaredAt}
+use Rattle.image.specs.Image.{Image, imageOf, schemaIn, frameIn, framed, startsOf, readableSlots, contentsOf, Placed, placedAt, Declared, declaredAt}
 use Rattle.image.specs.declared.Frame.{Frame}
 use Rattle.image.specs.declared.Framed.{Framed}
-use Rattle.image.proofs.Framing.{Accepted, accepted, FrontParts, front-parts, declared-parts}
+use Rattle.image.proofs.Framing.{Accepted, accepted, all-readable, FrontParts, front-parts, declared-parts}
 use Rattle.image.proofs.Tables.{placed-is, entry}
 use Rattle.loops.specs.Leads.{loopOf, slotsOf, Located}
 use Rattle.loops.specs.Refusals.{slots-past}
@@ -29,7 +29,7 @@ use Rattle.reader.specs.Refusals.{Judged}
 use Rattle.reader.specs.Promise.{Seen, Promise, Answered}
 use Rattle.reader.specs.declared.Reading.{Reading}
 use Rattle.reader.proofs.Losing.{slot-at}
-use Rattle.reader.proofs.Telling.{clear, is-empty, names-none, loops-none, schema-read, exactly}
+use Rattle.reader.proofs.Telling.{clear, is-empty, names-none, loops-none, schema-read, accepted-6, exactly}
 
 -- the slots of a run, without where they start
 slots-run : (names : ℕ) (s : List ℕ) (left at : ℕ) (xs : List Placed) (end : ℕ) → read (many left (placedAt names)) s at ≡ done xs end
@@ -130,9 +130,6 @@ module _ (s starts : List ℕ) (f : Frame) (v : Seen s starts f) where
   pub reading-is : judged (schemaOf s) f ≡ readingOf s
   reading-is = ap (judged (schemaOf s)) (v .frame) ∙ schema-read s record { image = v .image; end = v .end; reads = v .reads }
 
-  pub starts-are : (g : Frame) → startsOr (Reading.Accepted g) (imageOf s) ≡ startsOf (v .image .slots)
-  starts-are g = ap (startsOr (Reading.Accepted g)) (v .reads)
-
   all-found : lostName (schemaOf s .finds) (slotOf (schemaOf s)) ≡ Lowest.Nowhere
       → (n i : ℕ) → getD (schemaOf s .finds) n 0 ≡ suc i → isEmpty (slotOf (schemaOf s) i) ≡ false
   all-found e n i h = is-false _ (λ t. names-none (schemaOf s) .0 e n (i, h, is-empty _ t))
@@ -177,7 +174,7 @@ module _ (s starts : List ℕ) (f : Frame) (v : Seen s starts f) where
 
 -- the image that was framed
 pub seen : (s l l′ : List ℕ) (f : Frame) → 512 ≤ length l → Framed.Read f ≡ framed (imageOf s)
-    → ((i : Image) (n : ℕ) → imageOf s ≡ done i n → l′ ≡ sets l 0 (startsOf (i .slots))) → Seen s l′ f
+    → l′ ≡ sets l 0 (startsOf (readableSlots s)) → Seen s l′ f
 seen s l l′ f h e t = go (imageOf s) refl e
   where
     inside : (i : Image) (n : ℕ) → imageOf s ≡ done i n → f ≡ frameIn i → Seen s l′ f
@@ -186,13 +183,14 @@ seen s l l′ f h e t = go (imageOf s) refl e
         let k = front-parts s (i .front) (a .slotsPlace) (a .frontRead) .fewSlots in
         let c = length-map (i .slots) (λ z. z .start) ∙ many-length (placedAt (i .front .names)) s (i .front .slotCount) (a .slotsPlace) (i .slots) (a .declarationsPlace) (a .slotsRead) in
         let w : 0 + length (startsOf (i .slots)) ≤ length l = omega arith in
+        let written = t ∙ ap (λ (ss : List Placed). sets l 0 (startsOf ss)) (all-readable s i n x) in
         record {
           image = i;
           end = n;
           reads = x;
           frame = y;
-          table = λ j q. ap (λ (m : List ℕ). getD m j 0) (t i n x ∙ sets-eq (startsOf (i .slots)) l 0 w) ∙ List·getD-append (startsOf (i .slots)) (drop (0 + length (startsOf (i .slots))) l) 0 j (omega arith);
-          room = omega (arith, ap length (t i n x) ∙ length-sets l 0 (startsOf (i .slots)));
+          table = λ j q. ap (λ (m : List ℕ). getD m j 0) (written ∙ sets-eq (startsOf (i .slots)) l 0 w) ∙ List·getD-append (startsOf (i .slots)) (drop (0 + length (startsOf (i .slots))) l) 0 j (omega arith);
+          room = omega (arith, ap length written ∙ length-sets l 0 (startsOf (i .slots)));
         }
 
     go : (o : Outcome Image) → imageOf s ≡ o → Framed.Read f ≡ framed o → Seen s l′ f
@@ -208,19 +206,20 @@ not-seen s r q e = go (imageOf s) e
     go (refused r′ q′) y = let a : r ≡ r′ = cc in let b : q ≡ q′ = cc in rw (a, b)
 
 pub judged-said : (s l l′ : List ℕ) (f : Frame) → 512 ≤ length l → Framed.Read f ≡ framed (imageOf s)
-    → ((i : Image) (n : ℕ) → imageOf s ≡ done i n → l′ ≡ sets l 0 (startsOf (i .slots)))
-    → (r : Reading) → r ≡ judged (schemaOf s) f → Answered s l l′ r
+    → l′ ≡ sets l 0 (startsOf (readableSlots s)) → (r : Reading) → r ≡ judged (schemaOf s) f → Answered s l l′ r
 judged-said s l l′ f h e t r j =
     let v = seen s l l′ f h e t in
     record {
       answer = j ∙ reading-is s l′ f v;
       exact = exactly s (j ∙ reading-is s l′ f v);
-      table = λ g a. t (v .image) (v .end) (v .reads) ∙ ap (λ (vs : List ℕ). sets l 0 vs) (sym (ap (λ (x : Reading). startsOr x (imageOf s)) a ∙ starts-are s l′ f v g));
+      table = t;
       promise = λ g a. promised s l′ f v g (sym j ∙ a);
     }
 
-pub refused-said : (s l l′ : List ℕ) (r q : ℕ) → Framed.Refused r q ≡ framed (imageOf s) → Answered s l l′ (Reading.Refused r q)
-refused-said s l l′ r q e = record { answer = not-seen s r q e; exact = exactly s (not-seen s r q e); table = λ f a. absurd (none a); promise = λ f a. absurd (none a) }
+pub refused-said : (s l l′ : List ℕ) (r q : ℕ) → Framed.Refused r q ≡ framed (imageOf s) → l′ ≡ sets l 0 (startsOf (readableSlots s))
+    → Answered s l l′ (Reading.Refused r q)
+refused-said s l l′ r q e t =
+    let a = not-seen s r q e in record { answer = a; exact = exactly s a; table = t; promise = λ f a. absurd (none a) }
   where
     none : {f : Frame} → Reading.Refused r q ≡ Reading.Accepted f → ⊥
     none a = let z : _≡_ {A = ℕ} 0 1 = cc in omega arith
@@ -230,7 +229,10 @@ pub accepted-table : (s l′ : List ℕ) (r : Reading) (f : Frame) → Answered 
     → (Reading.Accepted f ≡ readingOf s) × (l′ ≡ startsTable s) × Judged s (Reading.Accepted f)
 unfolding startsTable
 accepted-table s l′ r f d a =
-    (sym a ∙ d .answer, d .table f a ∙ ap (λ (x : Reading). sets (replicate 512 0) 0 (startsOr x (imageOf s))) (d .answer), rw a at (d .exact))
+    let e = sym (d .answer) ∙ a in
+    let w = accepted-6 s f e in
+    let starts = ap startsOf (all-readable s (w .image) (w .end) (w .reads)) ∙ sym (ap₂ startsOr e (w .reads)) in
+    (sym e, d .table ∙ ap (λ (l : List ℕ). sets (replicate 512 0) 0 l) starts, rw a at (d .exact))
 
 pub refused-table : (s l′ : List ℕ) (r : Reading) (n p : ℕ) → Answered s (replicate 512 0) l′ r → r ≡ Reading.Refused n p
     → (Reading.Refused n p ≡ readingOf s) × (replicate 512 0 ≡ startsTable s) × Judged s (Reading.Refused n p)

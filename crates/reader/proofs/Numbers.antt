@@ -11,12 +11,12 @@ use Rattle.number.specs.Grammar.{Grammar, give, take, place, refuse, _>>=_, num
 use Rattle.number.specs.declared.Number.{Number}
 use Rattle.tree.specs.Tree.{Tree}
 use Rattle.tree.specs.TreeAt.{Node, one, two, sized, applied, kindsOf, kindTable, subByteAt, bitsAt, genericAt, noKind, bodyAt, headAt, fill, treeAt}
-use Rattle.tree.specs.Encoding.{Encoding, default, varint, zigZag, delta, encodingFill, encodingAt}
+use Rattle.tree.specs.Encoding.{default, varint, zigZag, delta, encodingFill, encodingAt}
 use Rattle.tree.specs.declared.Sort.{Sort}
 use Rattle.tree.specs.declared.Sort.the-variants.{Resolved, Expression}
-use Rattle.slot.specs.Field.{spanAt, storedTable, storedAt, Field, fieldAt, fieldsAt}
+use Rattle.slot.specs.Field.{spanAt, storedTable, storedAt, fieldAt, fieldsAt}
 use Rattle.slot.specs.Slot.{Slot, messageAt, ordinalsAt, enumAt, flagsAt, unionAt, newtypeAt, aliasAt, traitFieldAt, traitAt, traitSpanAt, implAt, made, slotTable, slotBodyAt, slotAt}
-use Rattle.image.specs.Image.{Front, frontAt, placedAt, declaredAt, endAt, Image, imageAt, whole, imageOf}
+use Rattle.image.specs.Image.{frontAt, placedAt, declaredAt, endAt, Image, imageAt, whole, imageOf}
 
 -- an outcome is no refusal past 6
 abbrev pub Low : {A : Type 0} → Outcome A → Type 0

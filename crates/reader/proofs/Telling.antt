@@ -193,7 +193,7 @@ module _ (s : List ℕ) where
       go (done i n) x l e = record { image = i; end = n; reads = x }
       go (refused q n) x l e = let z : q ≡ r = cc in absurd (omega arith)
 
-  accepted-6 : (f : Frame) → readingOf s ≡ Reading.Accepted f → Passes6 s
+  pub accepted-6 : (f : Frame) → readingOf s ≡ Reading.Accepted f → Passes6 s
   unfolding readingOf
   accepted-6 f e = go (imageOf s) refl e
     where

@@ -9,10 +9,10 @@ use Rattle.number.specs.Grammar.{slot, number, many, done, read}
 use Rattle.tree.specs.declared.Sort.the-variants.{Resolved, Expression}
 use Rattle.slot.specs.Slot.{slotAt}
 use Rattle.image.specs.Schema.{slotOf}
-use Rattle.image.specs.Image.{Image, imageOf, frameIn, startsOf}
+use Rattle.image.specs.Image.{Image, imageOf, frameIn, startsOf, readableSlots}
 use Rattle.image.specs.declared.Frame.{Frame}
 use Rattle.loops.specs.Refusals.{OnLoop}
-use Rattle.reader.specs.Reading.{isEmpty, readingOf, schemaOf, startsOr}
+use Rattle.reader.specs.Reading.{isEmpty, readingOf, schemaOf}
 use Rattle.reader.specs.Refusals.{Judged}
 use Rattle.reader.specs.declared.Reading.{Reading}
 
@@ -49,5 +49,5 @@ pub record Promise (s starts : List ℕ) (f : Frame) : Type 0 where
 pub record Answered (s before after : List ℕ) (r : Reading) : Type 0 where
   pub answer : r ≡ readingOf s
   pub exact : Judged s r
-  pub table : (f : Frame) → r ≡ Reading.Accepted f → after ≡ sets before 0 (startsOr r (imageOf s))
+  pub table : after ≡ sets before 0 (startsOf (readableSlots s))
   pub promise : (f : Frame) → r ≡ Reading.Accepted f → Promise s after f

@@ -10,7 +10,7 @@ use Rattle.tree.specs.declared.Sort.{Sort}
 use Rattle.tree.specs.declared.Sort.the-variants.{Resolved, Expression}
 use Rattle.slot.specs.Slot.{empty}
 use Rattle.image.specs.Schema.{Schema, slotOf}
-use Rattle.image.specs.Image.{Image, imageOf, frameIn}
+use Rattle.image.specs.Image.{Image, imageOf}
 use Rattle.image.specs.declared.Frame.{Frame}
 use Rattle.loops.specs.Refusals.{OnLoop}
 use Rattle.reader.specs.Reading.{schemaOf}

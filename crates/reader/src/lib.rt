@@ -113,7 +113,7 @@ fn judge(image: &[u8], starts: &[usize], frame: Frame) -> Reading
     )
 }
 
-// Reads an image into a table of where its slots start. What a refusal leaves in the table is not said.
+// Reads an image into a table of where its slots start, as far as they are read.
 pub fn read_into(image: &[u8], starts: &mut [usize]) -> Reading
     requires { ⌜ 512 ≤ length (now starts) ⌝ }
     ensures { λ r. ⌜ Answered (now (image .entry)) (now (starts .entry)) (now (starts .exit)) r ⌝ }

@@ -15,4 +15,4 @@ read-into-spec =
     (λ c. search needs)
     (λ c. judged-said _ _ _ _ (c .before .before .before .before .before .before .before .before .before .before .before .pre) (sym (c .before .before .before .frame .given .1) ∙ c .before .before .before .before .before .before .before .read-image .ensures .0) (c .before .before .before .before .before .before .before .read-image .ensures .1) _ (c .judge .ensures))
     (λ c. search needs)
-    (λ c. refused-said _ _ _ _ _ (sym (c .before .r .given .1) ∙ c .before .before .before .before .before .read-image .ensures .0)))
+    (λ c. refused-said _ _ _ _ _ (sym (c .before .r .given .1) ∙ c .before .before .before .before .before .read-image .ensures .0) (c .before .before .before .before .before .read-image .ensures .1)))
