@@ -106,11 +106,8 @@ fn judge(image: &[u8], starts: &[usize], frame: Frame) -> Reading
     let lost = lost_name(image, starts, count, names, finds);
     let newtype = looped(image, starts, count, names, finds, Sort::Resolved);
     let alias = looped(image, starts, count, names, finds, Sort::Expression);
-    or_refuse(
-        7,
-        lost,
-        or_refuse(8, newtype, or_refuse(9, alias, Reading::Accepted(frame))),
-    )
+    let last = or_refuse(9, alias, Reading::Accepted(frame));
+    or_refuse(7, lost, or_refuse(8, newtype, last))
 }
 
 // Reads an image into a table of where its slots start, as far as they are read.
