@@ -25,8 +25,9 @@ use Rattle.findings.specs.Meaning.{meaningOf}
 use Rattle.findings.specs.Conformance.{hasField, lacking}
 use Rattle.findings.specs.declared.Finding.{Finding}
 use Rattle.findings.proofs.Adding.{adds-none, adds-then, adds-same}
-use Rattle.meanings.specs.Places.{AtNames, Known, Sound, Bound, RightLook}
+use Rattle.meanings.specs.Places.{AtNames, Known, Sound, LookAsked, RightLook}
 use Rattle.meanings.specs.Scopes.{FindsHold}
+use Rattle.meanings.proofs.Noting.{looked-noted}
 use Rattle.search.specs.Search.{SearchAsked, HasField}
 use Rattle.conformance.specs.Parts.{ImplIs}
 use Rattle.conformance.specs.Adding.{ownFinding, Targeted}
@@ -100,43 +101,67 @@ module _ (s starts : List ℕ) (f : Frame) (d : ImplDef) (e : TraitDef) (slot bo
       (g .whole ∙ ap (λ (l : List TraitField). g .added ++ lacking (schemaOf s) slot (x .paired .impl) (x .paired .trait .parameters) (x .message) k l) q ∙ append-nil (g .added))
       (g .adds)
 
-  -- the field that comes next, and what is looked up for it
-  record First (x : Targeted s starts f d e body held) (before now places : List ℕ) (n p k v at : ℕ) (g : Going x before now places n p k) (after : List ℕ) (next : ℕ) : Type 0 where
-    field : TraitField
-    others : List TraitField
-    nameIs : v ≡ field .fieldName
-    typeEnd : ℕ
-    typeRead : read (expressionAt (f .names)) s at ≡ done (field .type) typeEnd
-    rest : read (many (e .«field_count» - (k + 1)) (traitFieldAt (f .names))) s next ≡ done others (x .paired .traitIs .fieldsEnd)
-    leftIs : g .left ≡ field ∷ others
-    sound : Sound (f .names) s (x .paired .trait .parameters) (x .paired .impl .arguments) after
-    known : AtNames (Known after) (field .type)
-
-  module _ (before now places : List ℕ) (n p k : ℕ) (h : k < e .«field_count») (long : length places ≡ 4096) (v at : ℕ) (t : Takes s p v at)
-      (after : List ℕ) (looked next : ℕ) (l : RightLook (f .names) 32 s at (e .«type_params») (d .«type_args») (d .«type_arg_count») places after looked next) where
-    first : (x : Targeted s starts f d e body held) (g : Going x before now places n p k) → First x before now places n p k v at g after next
-    first x g =
-        let P = x .paired .promise in
-        let z : e .«field_count» - k ≡ suc (e .«field_count» - (k + 1)) = omega arith in
-        let a = front (traitFieldAt (f .names)) s (e .«field_count» - (k + 1)) p (g .left) (x .paired .traitIs .fieldsEnd) (rw z at (g .leftRead)) in
-        let b = field-parts s (f .names) p (a .first) (a .middle) (omega (arith, P .fewNames)) (a .here) v at t in
-        let bound : Bound (f .names) s (e .«type_params») (d .«type_args») (d .«type_arg_count») (x .paired .trait .parameters) (x .paired .impl .arguments) = record {
+  -- the names of an expression are looked up among the trait's parameters
+  abbrev looks : (x : Targeted s starts f d e body held) (at : ℕ) (u : Tree) (end : ℕ) → read (expressionAt (f .names)) s at ≡ done u end
+      → LookAsked (f .names) 32 s at (e .«type_params») (d .«type_args») (d .«type_arg_count»)
+  looks x at u end q =
+      record {
+        few = omega arith;
+        parameters = x .paired .trait .parameters;
+        types = x .paired .impl .arguments;
+        bound = record {
           parametersEnd = x .paired .traitIs .parametersEnd;
           parametersRead = x .paired .traitIs .parameters;
           argumentsEnd = x .paired .implIs .argumentsEnd;
           argumentsRead = x .paired .implIs .arguments;
-        } in
-        let q = l _ _ bound (P .small) (omega (arith, P .fewNames)) (a .first .type) (a .middle) (b .1) in
+        };
+        tree = u;
+        end = end;
+        reads = q;
+      }
+
+  module _ (before now places : List ℕ) (n p k : ℕ) (h : k < e .«field_count») (v at : ℕ) (t : Takes s p v at) where
+    -- the field that comes next
+    record Next (x : Targeted s starts f d e body held) (g : Going x before now places n p k) : Type 0 where
+      field : TraitField
+      others : List TraitField
+      end : ℕ
+      nameIs : v ≡ field .fieldName
+      typeRead : read (expressionAt (f .names)) s at ≡ done (field .type) end
+      rest : read (many (e .«field_count» - (k + 1)) (traitFieldAt (f .names))) s end ≡ done others (x .paired .traitIs .fieldsEnd)
+      leftIs : g .left ≡ field ∷ others
+
+    next-field : (x : Targeted s starts f d e body held) (g : Going x before now places n p k) → Next x g
+    next-field x g =
+        let z : e .«field_count» - k ≡ suc (e .«field_count» - (k + 1)) = omega arith in
+        let a = front (traitFieldAt (f .names)) s (e .«field_count» - (k + 1)) p (g .left) (x .paired .traitIs .fieldsEnd) (rw z at (g .leftRead)) in
+        let b = field-parts s (f .names) p (a .first) (a .middle) (omega (arith, x .paired .promise .fewNames)) (a .here) v at t in
+        record { field = a .first; others = a .others; end = a .middle; nameIs = b .0; typeRead = b .1; rest = a .rest; leftIs = a .whole }
+
+    pub look-asked : (x : Targeted s starts f d e body held) → Going x before now places n p k → LookAsked (f .names) 32 s at (e .«type_params») (d .«type_args») (d .«type_arg_count»)
+    look-asked x g = let a = next-field x g in looks x at (a .field .type) (a .end) (a .typeRead)
+
+  module _ (before now places : List ℕ) (n p k : ℕ) (h : k < e .«field_count») (long : length places ≡ 4096) (v at : ℕ) (t : Takes s p v at)
+      (after : List ℕ) (looked next : ℕ) (l : RightLook (f .names) 32 s at (e .«type_params») (d .«type_args») (d .«type_arg_count») places after looked next) where
+    -- the same, once its names were looked up
+    record First (x : Targeted s starts f d e body held) (g : Going x before now places n p k) : Type 0 where
+      own : Next before now places n p k h v at t x g
+      rest : read (many (e .«field_count» - (k + 1)) (traitFieldAt (f .names))) s next ≡ done (own .others) (x .paired .traitIs .fieldsEnd)
+      sound : Sound (f .names) s (x .paired .trait .parameters) (x .paired .impl .arguments) after
+      known : AtNames (Known after) (own .field .type)
+
+    first : (x : Targeted s starts f d e body held) (g : Going x before now places n p k) → First x g
+    first x g =
+        let P = x .paired .promise in
+        let a = next-field before now places n p k h v at t x g in
+        let asked = looks x at (a .field .type) (a .end) (a .typeRead) in
+        let q = l asked in
+        let noted = looked-noted asked (P .small) places after (omega (arith, P .fewNames)) (q .1) in
         record {
-          field = a .first;
-          others = a .others;
-          nameIs = b .0;
-          typeEnd = a .middle;
-          typeRead = b .1;
-          rest = ap (read (many (e .«field_count» - (k + 1)) (traitFieldAt (f .names))) s) (q .1) ∙ a .rest;
-          leftIs = a .whole;
-          sound = q .0 .sound (g .sound);
-          known = q .0 .known;
+          own = a;
+          rest = ap (read (many (e .«field_count» - (k + 1)) (traitFieldAt (f .names))) s) (q .2) ∙ a .rest;
+          sound = noted .sound (g .sound);
+          known = noted .known;
         }
 
     module _ (finds : List ℕ) (hold : FindsHold s finds) (place c m : ℕ)
@@ -158,9 +183,9 @@ module _ (s starts : List ℕ) (f : Frame) (d : ImplDef) (e : TraitDef) (slot bo
               parameters = x .paired .trait .parameters;
               arguments = x .paired .impl .arguments;
               sound = a .sound;
-              tree = a .field .type;
-              end = a .typeEnd;
-              reads = a .typeRead;
+              tree = a .own .field .type;
+              end = a .own .end;
+              reads = a .own .typeRead;
               known = a .known;
             };
           }
@@ -174,21 +199,21 @@ module _ (s starts : List ℕ) (f : Frame) (d : ImplDef) (e : TraitDef) (slot bo
           let S = schemaOf s in
           let i = x .paired .impl in
           let ps = x .paired .trait .parameters in
-          let there : found ≡ hasField (x .message .fields) (a .field .fieldName) (meaningOf S ps (i .arguments) (a .field .type)) =
-          w (x .message .fields) (x .end) ps (i .arguments) (a .field .type) (a .typeEnd) (fields-read x) (a .sound) (a .typeRead) (a .known)
-          ∙ ap (λ (j : ℕ). hasField (x .message .fields) j (meaningOf S ps (i .arguments) (a .field .type))) (a .nameIs) in
+          let there : found ≡ hasField (x .message .fields) (a .own .field .fieldName) (meaningOf S ps (i .arguments) (a .own .field .type)) =
+          w (x .message .fields) (x .end) ps (i .arguments) (a .own .field .type) (a .own .end) (fields-read x) (a .sound) (a .own .typeRead) (a .known)
+          ∙ ap (λ (j : ℕ). hasField (x .message .fields) j (meaningOf S ps (i .arguments) (a .own .field .type))) (a .own .nameIs) in
           let here : List Finding = cond found [] (y ∷ []) in
           record {
             low = omega arith;
             sound = a .sound;
-            left = a .others;
+            left = a .own .others;
             leftRead = a .rest;
             added = g .added ++ here;
             adds = adds-then (k + 1) (g .adds) add (omega arith);
             whole = g .whole
-                ∙ ap (λ (q : List TraitField). g .added ++ lacking S slot i ps (x .message) k q) (a .leftIs)
+                ∙ ap (λ (q : List TraitField). g .added ++ lacking S slot i ps (x .message) k q) (a .own .leftIs)
                 ∙ ap (λ (q : List Finding). g .added ++ q)
-                (lacking-first S slot i ps (x .message) k (a .field) (a .others) found there
-                ∙ ap₂ (λ (q : Finding) (j : ℕ). cond found [] (q ∷ []) ++ lacking S slot i ps (x .message) j (a .others)) (sym (own ∙ own-is (x .paired .implIs) 4 slot k)) (sym (add-one k)))
-                ∙ sym (append-assoc (g .added) here (lacking S slot i ps (x .message) (k + 1) (a .others)));
+                (lacking-first S slot i ps (x .message) k (a .own .field) (a .own .others) found there
+                ∙ ap₂ (λ (q : Finding) (j : ℕ). cond found [] (q ∷ []) ++ lacking S slot i ps (x .message) j (a .own .others)) (sym (own ∙ own-is (x .paired .implIs) 4 slot k)) (sym (add-one k)))
+                ∙ sym (append-assoc (g .added) here (lacking S slot i ps (x .message) (k + 1) (a .own .others)));
           }

@@ -6,7 +6,10 @@ use mathlib.Core.Bool.{false, cond}
 use native.Mathlib.Omega.{arith}
 use lib.ListN.{length, List·getD-eq-default}
 use borrow.Author.Tests.{eq-eqb, ne-eqb}
+use Rattle.number.specs.Grammar.{read}
 use Rattle.number.proofs.Reading.{many-length}
+use Rattle.tree.specs.TreeAt.{headAt}
+use Rattle.tree.specs.declared.Sort.the-variants.{Resolved}
 use Rattle.slot.specs.Field.{typeAt, Span}
 use Rattle.slot.specs.Slot.{Slot, empty, message, messageAt, enum, flags, union, newtype, config, alias, Trait, trait, Impl, impl, slotKind, slotBodyAt}
 use Rattle.slot.proofs.Whole.{made-of, Made}
@@ -23,7 +26,8 @@ use Rattle.findings.specs.Conformance.{onTarget, onValue, spanOr, lacking, conf
 use Rattle.findings.specs.declared.Finding.{Finding}
 use Rattle.findings.specs.declared.Value.{Value}
 use Rattle.findings.proofs.Adding.{adds-none, adds-same}
-use Rattle.meanings.specs.Scopes.{RightValue}
+use Rattle.meanings.specs.Scopes.{headValue}
+use Rattle.meanings.proofs.Leaves.{value-right}
 use Rattle.conformance.specs.Adding.{ownFinding, targetFindings, Paired, Targeted}
 use Rattle.conformance.specs.declared.ImplDef.{ImplDef}
 use Rattle.conformance.specs.declared.TraitDef.{TraitDef}
@@ -85,10 +89,10 @@ unfolding slotOf
 slots-past s starts f p j h = List·getD-eq-default (schemaOf s .slots) empty {n = j} (omega (arith, p .count))
 
 module _ (s starts : List ℕ) (f : Frame) (d : ImplDef) (e : TraitDef) (slot held : ℕ) where
-  module _ (v : Value) (right : RightValue (f .names) s (d .«target_type») v) where
+  module _ (v : Value) (told : v ≡ headValue (read (headAt Resolved (f .names)) s (d .«target_type»))) where
     target-is : (a : Paired s starts f d e held) (w : Value) → v ≡ w → targetFindings (schemaOf s) slot (a .impl) (a .trait) ≡ onValue (schemaOf s) slot (a .impl) (a .trait) w
     unfolding targetFindings
-    target-is a w q = ap (onValue (schemaOf s) slot (a .impl) (a .trait)) (sym (right (a .impl .target) (a .implIs .targetEnd) (a .implIs .target)) ∙ q)
+    target-is a w q = ap (onValue (schemaOf s) slot (a .impl) (a .trait)) (sym (value-right (f .names) s (d .«target_type») v told (a .impl .target) (a .implIs .targetEnd) (a .implIs .target)) ∙ q)
 
     pub no-name : v ≡ Value.NotName → (t : List ℕ) (a : Paired s starts f d e held) → Adds 65536 t t held held (targetFindings (schemaOf s) slot (a .impl) (a .trait))
     no-name q t a = adds-same 65536 (omega arith) (target-is a _ q) (adds-none 0 t held)

@@ -5,3 +5,4 @@ pub mod Meaning
 pub mod Compatible
 pub mod Conformance
 pub mod Findings
+pub mod Examples

@@ -23,11 +23,11 @@ use Rattle.findings.specs.declared.Value.{Value}
 use Rattle.meanings.specs.Rank.{Ranked}
 use Rattle.meanings.specs.Places.{AtNames, Sound}
 use Rattle.meanings.specs.Scopes as sc
-use Rattle.meanings.specs.Scopes.{FindsHold, Stands, KnownIn, Whole, Told, RightMeaning, RightName}
+use Rattle.meanings.specs.Scopes.{leafMeaning, FindsHold, Stands, KnownIn, RightName}
 use Rattle.meanings.specs.declared.Scope.{Scope}
 use Rattle.meanings.specs.declared.Meaning.{Meaning}
 use Rattle.meanings.proofs.Heights.{within}
-use Rattle.meanings.proofs.Leaves.{is-name, leaf-3}
+use Rattle.meanings.proofs.Leaves.{Whole, Told, is-name, leaf-3, meaning-right}
 use Rattle.matching.specs.Steps.{nodeOf, leafNode, Says, agree, differ, SameSize, SameLeaf, idAnswer, endingAt}
 use Rattle.matching.specs.Comparing.{meant, LookedUp, ToldHere, MeansHere, SameGeneric, Asked, Compares}
 use Rattle.matching.specs.declared.Matched.{Matched}
@@ -122,10 +122,10 @@ module _ (names : ℕ) (s finds places : List ℕ) (kind v : ℕ) (sort : Sort) 
   unfolding ToldHere meant
   here-type e h ps ts st l k n w = rw e
 
-  pub here-expression : sort ≡ Expression → (r : Meaning) → RightMeaning names s finds places Scope.Types kind v r → MeansHere names s finds places kind v sort r
+  pub here-expression : sort ≡ Expression → (r : Meaning) → r ≡ leafMeaning names s finds places Scope.Types kind v → MeansHere names s finds places kind v sort r
   unfolding Stands KnownIn LookedUp meant meaningOf substitute Told ToldHere Whole
   here-expression e r told h ps ts st l k n w =
-      rw e (told-here r (told h ps ts st l k n (subst (λ (x : Sort). LookedUp x places (leaf l)) e w)))
+      rw e (told-here r (meaning-right names s finds places Scope.Types kind v r told h ps ts st l k n (subst (λ (x : Sort). LookedUp x places (leaf l)) e w)))
     where
       told-here : (r : Meaning) → Told names s Scope.Types l (leafMeant (schemaOf s) ps ts l) r → ToldHere names s Expression l (leafMeant (schemaOf s) ps ts l) r
       told-here Meaning.Itself t = t .0
@@ -371,13 +371,24 @@ module _ (s starts : List ℕ) (f : Frame) (finds places : List ℕ) (p q levels
       )
 
   pub asked-generic : (v b : ℕ) → shape (read (headAt sort (f .names)) s q) ≡ Head.Generic v b → sc.Asked s starts f finds places q levels Scope.Types
-  unfolding LookedUp KnownIn
+  unfolding LookedUp KnownIn Stands
   asked-generic v b e = go sort (j .reads) (j .known) (parts sort (f .names) s q levels (asked-level j) _ e (j .tree) (j .end) (j .reads) .1)
     where
       go : (sort : Sort) → read (treeAt sort (f .names) levels) s q ≡ done (j .tree) (j .end) → LookedUp sort places (j .tree)
           → {u : Tree} → j .tree ≡ generic v u → sc.Asked s starts f finds places q levels Scope.Types
       go Resolved rd kn {u} g = absurd (no-generic (f .names) levels s q v u (j .tree) (j .end) rd g)
-      go Expression rd kn g = record { ready = j .ready; few = j .few; tree = j .tree; end = j .end; reads = rd; known = kn }
+      go Expression rd kn g =
+          record {
+            ready = j .ready;
+            few = j .few;
+            tree = j .tree;
+            end = j .end;
+            reads = rd;
+            known = kn;
+            parameters = j .parameters;
+            arguments = j .arguments;
+            stands = j .sound;
+          }
 
   -- a child of both, one level down
   child : (m n : ℕ) (t : Tree) (tEnd : ℕ) → read (treeAt Resolved (f .names) (j .depth - 1)) s m ≡ done t tEnd

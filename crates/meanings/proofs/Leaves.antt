@@ -3,11 +3,15 @@ use Prim.Native.Nat.{ℕ, zero, suc, _-_, _≤_, _<_}
 use mathlib.Core.Path.{_≡_, refl, sym, ap, subst, _∙_}
 use mathlib.Core.List.{List}
 use mathlib.Core.Bool.{Bool, true, false, cond}
+use mathlib.Core.Logic.{by-cases}
 use native.Mathlib.Omega.{arith}
+use native.Mathlib.Decide.{decLt, ℕ-discrete}
+use borrow.Author.Tests.{eq-eqb, ne-eqb}
+use lib.Dec.{eqb}
 use lib.ListN.{getD}
-use Rattle.number.specs.Grammar.{done, read}
+use Rattle.number.specs.Grammar.{Outcome, done, refused, read}
 use Rattle.tree.specs.Tree.{Tree, Leaf, leaf, primitive, subByte, semantic, named, bitsInline, qualified, wrap, fixedArray, pair, generic, leafKind, leafNumber}
-use Rattle.tree.specs.TreeAt.{headAt, shape}
+use Rattle.tree.specs.TreeAt.{Node, none, one, two, sized, applied, headAt, shape}
 use Rattle.tree.specs.declared.Sort.the-variants.{Resolved}
 use Rattle.tree.specs.declared.Head.{Head}
 use Rattle.tree.proofs.Shapes.{parts}
@@ -15,11 +19,40 @@ use Rattle.image.specs.Schema.{Schema}
 use Rattle.reader.specs.Reading.{schemaOf}
 use Rattle.findings.specs.Meaning.{idFound, resolved, argumentOf, leafValue, valueOf, leafMeant}
 use Rattle.findings.specs.declared.Value.{Value}
-use Rattle.meanings.specs.Places.{AtNames, IsArgument, foundOf, Known, Sound, RightFirst}
-use Rattle.meanings.specs.Scopes.{FindsHold, Stands, KnownIn, Whole, Told, RightParameter, RightMeaning, RightLeaf, RightValue}
+use Rattle.slot.specs.Field.{typeAt}
+use Rattle.meanings.specs.Places.{AtNames, IsArgument, foundOf, Known, Sound}
+use Rattle.meanings.specs.Scopes.{firstAt, isFirst, atPlace, ofValue, nameMeaning, leafMeaning, headValue, FindsHold, Stands, KnownIn, RightLeaf}
 use Rattle.meanings.specs.declared.Scope.{Scope}
 use Rattle.meanings.specs.declared.Meaning.{Meaning}
 use Rattle.meanings.specs.declared.Found.{Found}
+use Rattle.meanings.proofs.Arguments.{RightFirst, first-right}
+
+-- a scope of which every type is known whole
+unfoldable pub Whole : Scope → Type 0
+Whole Scope.Types = Unit {0}
+Whole (Scope.One p v) = ⊥
+
+-- what an answer on the meaning x of a leaf l says
+unfoldable pub Told : (names : ℕ) → (s : List ℕ) → Scope → Leaf → (x : Tree) → Meaning → Type 0
+Told names s scope l x Meaning.Itself = (x ≡ leaf l) × (valueOf x ≡ Value.NotName)
+Told names s scope l x (Meaning.Id i) = x ≡ leaf (named i)
+Told names s scope l x (Meaning.Type q) = (end : ℕ) × (read (typeAt names) s q ≡ done x end)
+Told names s scope l x Meaning.NotName = (Whole scope → ⊥) × (valueOf x ≡ Value.NotName)
+
+-- what an answer on a plain name says, on a leaf, and on a type
+abbrev pub RightParameter : (names : ℕ) → (s finds places : List ℕ) → Scope → (n : ℕ) → Meaning → Type 0
+RightParameter names s finds places scope n r =
+    FindsHold s finds → (ps : List ℕ) (ts : List Tree) → Stands names s places scope ps ts → KnownIn scope places (leaf (named n))
+    → Told names s scope (named n) (leafMeant (schemaOf s) ps ts (named n)) r
+
+abbrev pub RightMeaning : (names : ℕ) → (s finds places : List ℕ) → Scope → (kind v : ℕ) → Meaning → Type 0
+RightMeaning names s finds places scope kind v r =
+    FindsHold s finds → (ps : List ℕ) (ts : List Tree) → Stands names s places scope ps ts
+    → (l : Leaf) → leafKind l ≡ kind → leafNumber l ≡ v → KnownIn scope places (leaf l)
+    → Told names s scope l (leafMeant (schemaOf s) ps ts l) r
+
+abbrev pub RightValue : (names : ℕ) → (s : List ℕ) → (at : ℕ) → Value → Type 0
+RightValue names s at r = (t : Tree) (end : ℕ) → read (typeAt names) s at ≡ done t end → r ≡ valueOf t
 
 pub found-none : {f : ℕ} → f ≡ 0 → 4294967295 ≡ idFound f
 found-none e = rw e
@@ -92,10 +125,10 @@ leaf-not (bitsInline ns) h = refl
 leaf-not (qualified n) h = refl
 
 -- what a place of the table says
-code-one : (c : ℕ) → (c ≡ 0 → ⊥) → c < 2 → foundOf c ≡ Found.Nothing
-code-one zero h l = absurd (h refl)
-code-one (suc zero) h l = refl
-code-one (suc (suc q)) h l = absurd (omega arith)
+code-none : (c : ℕ) → c < 2 → foundOf c ≡ Found.Nothing
+code-none zero l = refl
+code-none (suc zero) l = refl
+code-none (suc (suc q)) l = absurd (omega arith)
 
 code-at : (c : ℕ) → 2 ≤ c → foundOf c ≡ Found.At (c - 2)
 code-at zero h = absurd (omega arith)
@@ -105,26 +138,25 @@ code-at (suc (suc q)) h = let e : suc (suc q) - 2 ≡ q = omega arith in rw e
 -- plain names
 module _ (names : ℕ) (s finds places : List ℕ) (n : ℕ) (scope : Scope) where
   module _ (e : scope ≡ Scope.Types) (code : ℕ) (c : code ≡ getD places n 0) where
-    looked : (ps : List ℕ) (ts : List Tree) → Stands names s places scope ps ts → KnownIn scope places (leaf (named n))
-        → (code ≡ 0 → ⊥) × IsArgument names s ps ts n (foundOf code)
+    looked : (ps : List ℕ) (ts : List Tree) → Stands names s places scope ps ts → KnownIn scope places (leaf (named n)) → IsArgument names s ps ts n (foundOf code)
     unfolding Stands KnownIn AtNames
     looked ps ts st k =
         let st′ : Sound names s ps ts places = rw e at st in
         let k′ : Known places n = rw e at k in
-        ((λ z. k′ (sym c ∙ z)), rw c (st′ .right n k′))
+        rw c (st′ .right n k′)
 
-    pub types-none : code < 2 → (v : ℕ) → v ≡ idFound (getD finds n 0) → RightParameter names s finds places scope n (Meaning.Id v)
+    types-none : code < 2 → (v : ℕ) → v ≡ idFound (getD finds n 0) → RightParameter names s finds places scope n (Meaning.Id v)
     unfolding IsArgument Told leafMeant
     types-none l v g h ps ts st k =
         let j = looked ps ts st k in
-        let i : IsArgument names s ps ts n Found.Nothing = subst (λ (x : Found). IsArgument names s ps ts n x) (code-one code (j .0) l) (j .1) in
+        let i : IsArgument names s ps ts n Found.Nothing = subst (λ (x : Found). IsArgument names s ps ts n x) (code-none code l) j in
         i _ ∙ resolved-is s finds h n v g
 
-    pub types-at : 2 ≤ code → RightParameter names s finds places scope n (Meaning.Type (code - 2))
+    types-at : 2 ≤ code → RightParameter names s finds places scope n (Meaning.Type (code - 2))
     unfolding IsArgument Told leafMeant
     types-at l h ps ts st k =
         let j = looked ps ts st k in
-        let i : IsArgument names s ps ts n (Found.At (code - 2)) = subst (λ (x : Found). IsArgument names s ps ts n x) (code-at code l) (j .1) in
+        let i : IsArgument names s ps ts n (Found.At (code - 2)) = subst (λ (x : Found). IsArgument names s ps ts n x) (code-at code l) j in
         (i .1, i .2 ∙ ap (λ (t : Tree). done t (i .1)) (sym (i .3 _)))
 
   module _ (p : ℕ) (value : Value) (e : scope ≡ Scope.One p value) (first : Bool) (f : RightFirst names s p n first) where
@@ -140,34 +172,113 @@ module _ (names : ℕ) (s finds places : List ℕ) (n : ℕ) (scope : Scope) whe
     unfolding leafMeant
     one-first g ps ts st = let i = one-is ps ts st true g in ap valueOf (i .2 _) ∙ i .1
 
-    pub one-id : (i : ℕ) → first ≡ true → value ≡ Value.Id i → RightParameter names s finds places scope n (Meaning.Id i)
+    one-id : (i : ℕ) → first ≡ true → value ≡ Value.Id i → RightParameter names s finds places scope n (Meaning.Id i)
     unfolding Told
     one-id i g q h ps ts st k = is-name _ _ (one-first g ps ts st ∙ q)
 
-    pub one-not : first ≡ true → value ≡ Value.NotName → RightParameter names s finds places scope n Meaning.NotName
+    one-not : first ≡ true → value ≡ Value.NotName → RightParameter names s finds places scope n Meaning.NotName
     unfolding Told Whole
     one-not g q h ps ts st k = ((λ w. absurd (rw e at w)), one-first g ps ts st ∙ q)
 
-    pub one-other : (v : ℕ) → first ≡ false → v ≡ idFound (getD finds n 0) → RightParameter names s finds places scope n (Meaning.Id v)
+    one-other : (v : ℕ) → first ≡ false → v ≡ idFound (getD finds n 0) → RightParameter names s finds places scope n (Meaning.Id v)
     unfolding Told leafMeant
     one-other v g q h ps ts st k = one-is ps ts st false g .2 _ ∙ resolved-is s finds h n v q
 
+  -- what the tables say of a plain name, by the code's steps
+  abbrev Id : ℕ
+  Id = idFound (getD finds n 0)
+
+  abbrev Means : Meaning
+  Means = nameMeaning names s finds places scope n
+
+  module _ (e : scope ≡ Scope.Types) (code : ℕ) (c : code ≡ getD places n 0) where
+    pub table-none : code < 2 → (v : ℕ) → v ≡ Id → Meaning.Id v ≡ Means
+    unfolding nameMeaning
+    table-none l v g = rw e (ap Meaning.Id g ∙ ap (λ (f : Found). atPlace f Id) (sym (code-none code l) ∙ ap foundOf c))
+
+    pub table-at : 2 ≤ code → Meaning.Type (code - 2) ≡ Means
+    unfolding nameMeaning
+    table-at l = rw e (ap (λ (f : Found). atPlace f Id) (sym (code-at code l) ∙ ap foundOf c))
+
+  module _ (p : ℕ) (value : Value) (e : scope ≡ Scope.One p value) (first : Bool) (f : first ≡ isFirst n (read (firstAt names) s p)) where
+    by-first : (b : Bool) → first ≡ b → cond b (ofValue value) (Meaning.Id Id) ≡ Means
+    unfolding nameMeaning
+    by-first b g = rw e (ap (λ (x : Bool). cond x (ofValue value) (Meaning.Id Id)) (sym g ∙ f))
+
+    pub first-id : (i : ℕ) → first ≡ true → value ≡ Value.Id i → Meaning.Id i ≡ Means
+    first-id i g q = ap ofValue (sym q) ∙ by-first true g
+
+    pub first-no-name : first ≡ true → value ≡ Value.NotName → Meaning.NotName ≡ Means
+    first-no-name g q = ap ofValue (sym q) ∙ by-first true g
+
+    pub not-first : (v : ℕ) → first ≡ false → v ≡ Id → Meaning.Id v ≡ Means
+    not-first v g q = ap Meaning.Id q ∙ by-first false g
+
+-- and it is right
+name-right : (names : ℕ) (s finds places : List ℕ) (n : ℕ) (scope : Scope) → RightParameter names s finds places scope n (nameMeaning names s finds places scope n)
+name-right names s finds places n Scope.Types =
+    by-cases (decLt (getD places n 0) 2)
+    (λ l. is (table-none names s finds places n Scope.Types refl _ refl l _ refl) (types-none names s finds places n Scope.Types refl _ refl l _ refl))
+    (λ l. is (table-at names s finds places n Scope.Types refl _ refl (omega arith)) (types-at names s finds places n Scope.Types refl _ refl (omega arith)))
+  where
+    is : {m : Meaning} → m ≡ nameMeaning names s finds places Scope.Types n → RightParameter names s finds places Scope.Types n m
+        → RightParameter names s finds places Scope.Types n (nameMeaning names s finds places Scope.Types n)
+    is e h = subst (λ (m : Meaning). RightParameter names s finds places Scope.Types n m) e h
+name-right names s finds places n (Scope.One p value) = go value refl (isFirst n (read (firstAt names) s p)) refl
+  where
+    is : {m : Meaning} → m ≡ nameMeaning names s finds places (Scope.One p value) n → RightParameter names s finds places (Scope.One p value) n m
+        → RightParameter names s finds places (Scope.One p value) n (nameMeaning names s finds places (Scope.One p value) n)
+    is e h = subst (λ (m : Meaning). RightParameter names s finds places (Scope.One p value) n m) e h
+
+    go : (w : Value) → value ≡ w → (b : Bool) → isFirst n (read (firstAt names) s p) ≡ b → RightParameter names s finds places (Scope.One p value) n (nameMeaning names s finds places (Scope.One p value) n)
+    go (Value.Id i) q true g =
+        is (first-id names s finds places n (Scope.One p value) p value refl _ refl i g q) (one-id names s finds places n (Scope.One p value) p value refl _ (first-right names s p n) i g q)
+    go Value.NotName q true g =
+        is (first-no-name names s finds places n (Scope.One p value) p value refl _ refl g q) (one-not names s finds places n (Scope.One p value) p value refl _ (first-right names s p n) g q)
+    go w q false g =
+        is (not-first names s finds places n (Scope.One p value) p value refl _ refl _ g refl) (one-other names s finds places n (Scope.One p value) p value refl _ (first-right names s p n) _ g refl)
+
 -- leaves
 module _ (names : ℕ) (s finds places : List ℕ) (scope : Scope) (kind v : ℕ) where
-  pub kind-3 : (r : Meaning) → kind ≡ 3 → RightParameter names s finds places scope v r → RightMeaning names s finds places scope kind v r
+  abbrev Means-leaf : Meaning
+  Means-leaf = leafMeaning names s finds places scope kind v
+
+  pub plain : (r : Meaning) → kind ≡ 3 → r ≡ nameMeaning names s finds places scope v → r ≡ Means-leaf
+  unfolding leafMeaning
+  plain r e h = rw (eq-eqb kind 3 e) h
+
+  pub qualified-name : (i : ℕ) → kind ≡ 17 → i ≡ idFound (getD finds v 0) → Meaning.Id i ≡ Means-leaf
+  unfolding leafMeaning
+  qualified-name i e h = rw (ne-eqb kind 3 (λ z. omega arith), eq-eqb kind 17 e) (ap Meaning.Id h)
+
+  pub no-name : (kind ≡ 3 → ⊥) → (kind ≡ 17 → ⊥) → Meaning.Itself ≡ Means-leaf
+  unfolding leafMeaning
+  no-name a b = rw (ne-eqb kind 3 a, ne-eqb kind 17 b)
+
+  kind-3 : (r : Meaning) → kind ≡ 3 → RightParameter names s finds places scope v r → RightMeaning names s finds places scope kind v r
   kind-3 r e f h ps ts st l k m w =
       let q = leaf-3 l v (k ∙ e) m in
       rw q (f h ps ts st (subst (λ (x : Leaf). KnownIn scope places (leaf x)) q w))
 
-  pub kind-17 : (i : ℕ) → kind ≡ 17 → i ≡ idFound (getD finds v 0) → RightMeaning names s finds places scope kind v (Meaning.Id i)
+  kind-17 : (i : ℕ) → kind ≡ 17 → i ≡ idFound (getD finds v 0) → RightMeaning names s finds places scope kind v (Meaning.Id i)
   unfolding Told leafMeant
   kind-17 i e f h ps ts st l k m w = rw (leaf-17 l v (k ∙ e) m) (resolved-is s finds h v i f)
 
-  pub kind-other : (kind ≡ 3 → ⊥) → (kind ≡ 17 → ⊥) → RightMeaning names s finds places scope kind v Meaning.Itself
+  kind-other : (kind ≡ 3 → ⊥) → (kind ≡ 17 → ⊥) → RightMeaning names s finds places scope kind v Meaning.Itself
   unfolding Told valueOf
   kind-other a b h ps ts st l k m w =
       let e = leaf-other (schemaOf s) ps ts l (λ x. a (sym k ∙ x)) (λ x. b (sym k ∙ x)) in
       (e, ap valueOf e ∙ leaf-not l (λ x. a (sym k ∙ x)))
+
+  pub meaning-right : (w : Meaning) → w ≡ Means-leaf → RightMeaning names s finds places scope kind v w
+  meaning-right w q =
+      rw q
+      (by-cases (ℕ-discrete kind 3)
+      (λ e. is (plain _ e refl) (kind-3 _ e (name-right names s finds places v scope)))
+      (λ a. by-cases (ℕ-discrete kind 17) (λ e. is (qualified-name _ e refl) (kind-17 _ e refl)) (λ b. is (no-name a b) (kind-other a b))))
+    where
+      is : {m : Meaning} → m ≡ Means-leaf → RightMeaning names s finds places scope kind v m → RightMeaning names s finds places scope kind v Means-leaf
+      is e h = subst (λ (m : Meaning). RightMeaning names s finds places scope kind v m) e h
 
   module _ (w : Meaning) (f : RightMeaning names s finds places scope kind v w) where
     told-as : (o : Meaning) → w ≡ o → RightMeaning names s finds places scope kind v o
@@ -189,38 +300,87 @@ module _ (names : ℕ) (s finds places : List ℕ) (scope : Scope) (kind v : ℕ
     unfolding Told
     value-not e h ps ts st l k m q = sym (told-as _ e h ps ts st l k m q .1)
 
+-- by the shape of a head
+abbrev shapeValue : Head → Value
+shapeValue (Head.Leaf k g v n) = cond (eqb k 3) (Value.Id v) Value.NotName
+shapeValue (Head.One k n) = Value.NotName
+shapeValue (Head.Two k n) = Value.NotName
+shapeValue (Head.Sized n) = Value.NotName
+shapeValue (Head.Generic v n) = Value.NotName
+shapeValue (Head.Refused r p) = Value.NotName
+
+by-shape : (o : Outcome Node) → shapeValue (shape o) ≡ headValue o
+unfolding leafValue
+by-shape (done (none (primitive p)) n) = refl
+by-shape (done (none (subByte g b)) n) = refl
+by-shape (done (none (semantic m)) n) = refl
+by-shape (done (none (named i)) n) = refl
+by-shape (done (none (bitsInline ns)) n) = refl
+by-shape (done (none (qualified i)) n) = refl
+by-shape (done (one w) n) = refl
+by-shape (done (two p) n) = refl
+by-shape (done sized n) = refl
+by-shape (done (applied v) n) = refl
+by-shape (refused r p) = refl
+
 -- which slot a type names
 module _ (names : ℕ) (s : List ℕ) (at : ℕ) where
   abbrev Shape : Head → Type 0
   Shape x = shape (read (headAt Resolved names) s at) ≡ x
 
-  pub type-name : (k g v n : ℕ) → Shape (Head.Leaf k g v n) → k ≡ 3 → RightValue names s at (Value.Id v)
+  type-name : (k g v n : ℕ) → Shape (Head.Leaf k g v n) → k ≡ 3 → RightValue names s at (Value.Id v)
   unfolding valueOf leafValue
   type-name k g v n x e t end q =
       let p = parts Resolved names s at 32 (λ z. omega arith) _ x t end q in
       sym (ap valueOf (p .1 ∙ ap leaf (leaf-3 (p .0) v (p .2 ∙ e) (p .4))))
 
-  pub type-leaf : (k g v n : ℕ) → Shape (Head.Leaf k g v n) → (k ≡ 3 → ⊥) → RightValue names s at Value.NotName
+  type-leaf : (k g v n : ℕ) → Shape (Head.Leaf k g v n) → (k ≡ 3 → ⊥) → RightValue names s at Value.NotName
   unfolding valueOf
   type-leaf k g v n x e t end q =
       let p = parts Resolved names s at 32 (λ z. omega arith) _ x t end q in
       sym (ap valueOf (p .1) ∙ leaf-not (p .0) (λ z. e (sym (p .2) ∙ z)))
 
-  pub type-one : (k n : ℕ) → Shape (Head.One k n) → RightValue names s at Value.NotName
+  type-one : (k n : ℕ) → Shape (Head.One k n) → RightValue names s at Value.NotName
   unfolding valueOf
   type-one k n x t end q = let p = parts Resolved names s at 32 (λ z. omega arith) _ x t end q in sym (ap valueOf (p .2))
 
-  pub type-two : (k n : ℕ) → Shape (Head.Two k n) → RightValue names s at Value.NotName
+  type-two : (k n : ℕ) → Shape (Head.Two k n) → RightValue names s at Value.NotName
   unfolding valueOf
   type-two k n x t end q = let p = parts Resolved names s at 32 (λ z. omega arith) _ x t end q in sym (ap valueOf (p .4))
 
-  pub type-sized : (n : ℕ) → Shape (Head.Sized n) → RightValue names s at Value.NotName
+  type-sized : (n : ℕ) → Shape (Head.Sized n) → RightValue names s at Value.NotName
   unfolding valueOf
   type-sized n x t end q = let p = parts Resolved names s at 32 (λ z. omega arith) _ x t end q in sym (ap valueOf (p .3))
 
-  pub type-generic : (v n : ℕ) → Shape (Head.Generic v n) → RightValue names s at Value.NotName
+  type-generic : (v n : ℕ) → Shape (Head.Generic v n) → RightValue names s at Value.NotName
   unfolding valueOf
   type-generic v n x t end q = let p = parts Resolved names s at 32 (λ z. omega arith) _ x t end q in sym (ap valueOf (p .1))
 
-  pub type-refused : (r n : ℕ) → Shape (Head.Refused r n) → RightValue names s at Value.NotName
+  type-refused : (r n : ℕ) → Shape (Head.Refused r n) → RightValue names s at Value.NotName
   type-refused r n x t end q = absurd (parts Resolved names s at 32 (λ z. omega arith) _ x t end q)
+
+  abbrev Value-here : Value
+  Value-here = headValue (read (headAt Resolved names) s at)
+
+  -- the code's answers
+  pub shape-is : (x : Head) → Shape x → shapeValue x ≡ Value-here
+  shape-is x e = ap shapeValue (sym e) ∙ by-shape (read (headAt Resolved names) s at)
+
+  pub name-is : (k g v n : ℕ) → Shape (Head.Leaf k g v n) → k ≡ 3 → Value.Id v ≡ Value-here
+  name-is k g v n x e = rw (eq-eqb k 3 e) at (shape-is _ x)
+
+  pub leaf-is : (k g v n : ℕ) → Shape (Head.Leaf k g v n) → (k ≡ 3 → ⊥) → Value.NotName ≡ Value-here
+  leaf-is k g v n x e = rw (ne-eqb k 3 e) at (shape-is _ x)
+
+  -- and they are right
+  right-shape : (x : Head) → Shape x → RightValue names s at (shapeValue x)
+  right-shape (Head.Leaf k g v n) x =
+      by-cases (ℕ-discrete k 3) (λ e. rw (eq-eqb k 3 e) (type-name k g v n x e)) (λ e. rw (ne-eqb k 3 e) (type-leaf k g v n x e))
+  right-shape (Head.One k n) x = type-one k n x
+  right-shape (Head.Two k n) x = type-two k n x
+  right-shape (Head.Sized n) x = type-sized n x
+  right-shape (Head.Generic v n) x = type-generic v n x
+  right-shape (Head.Refused r p) x = type-refused r p x
+
+  pub value-right : (r : Value) → r ≡ Value-here → RightValue names s at r
+  value-right r e = subst (λ (v : Value). RightValue names s at v) (by-shape (read (headAt Resolved names) s at) ∙ sym e) (right-shape _ refl)

@@ -4,9 +4,9 @@ use mathlib.Core.Path.{_≡_, refl, sym, ap, subst, _∙_}
 use mathlib.Core.List.{List, [], _∷_}
 use native.Mathlib.Omega.{arith}
 use lib.ListN.{getD}
-use Rattle.number.specs.Grammar.{Outcome, done, refused, read}
+use Rattle.number.specs.Grammar.{name, number, counted, Outcome, done, refused, read}
 use Rattle.number.proofs.Reading.{given}
-use Rattle.tree.specs.Tree.{Tree, Leaf, leaf, generic}
+use Rattle.tree.specs.Tree.{Tree, Leaf, leaf, primitive, named, generic}
 use Rattle.tree.specs.TreeAt.{headAt, treeAt, shape}
 use Rattle.tree.specs.declared.Sort.the-variants.{Expression}
 use Rattle.tree.specs.declared.Head.{Head}
@@ -58,6 +58,20 @@ pub known-one : (scope : Scope) (p : ℕ) (v : Value) (places : List ℕ) (u : T
 unfolding KnownIn
 known-one scope p v places u e = rw e tt
 
+-- a type of which only is known which name it is
+abbrev pub treeOf : Value → Tree
+treeOf (Value.Id i) = leaf (named i)
+treeOf Value.NotName = leaf (primitive 0)
+
+stands-one : (names : ℕ) (s places : List ℕ) (scope : Scope) (p : ℕ) (v : Value) (ps : List ℕ) (m : ℕ) → scope ≡ Scope.One p v
+    → read (counted (number name names)) s p ≡ done ps m → Stands names s places scope ps (treeOf v ∷ [])
+unfolding Stands valueOf leafValue
+stands-one names s places scope p v ps m e r = rw e (m, treeOf v, r, refl, value-is v)
+  where
+    value-is : (v : Value) → valueOf (treeOf v) ≡ v
+    value-is (Value.Id i) = refl
+    value-is Value.NotName = refl
+
 module _ (s starts : List ℕ) (f : Frame) (finds places : List ℕ) (at levels : ℕ) (scope : Scope) (a : Asked s starts f finds places at levels scope) where
   abbrev Shape : Head → Type 0
   Shape x = shape (read (headAt Expression (f .names)) s at) ≡ x
@@ -108,6 +122,9 @@ module _ (s starts : List ℕ) (f : Frame) (finds places : List ℕ) (at levels 
           end = a .end;
           reads = p .2;
           known = known-argument scope places v (p .0) (subst (λ (u : Tree). KnownIn scope places u) (p .1) (a .known));
+          parameters = a .parameters;
+          arguments = a .arguments;
+          stands = a .stands;
         }
 
     pub body-less : rankAt (f .names) (levels - 1) s n ≤ rankAt (f .names) levels s at
@@ -121,7 +138,17 @@ module _ (s starts : List ℕ) (f : Frame) (finds places : List ℕ) (at levels 
       pub target-asked : (inner : Value) (inside : Scope) → inside ≡ Scope.One list inner → Asked s starts f finds places target 32 inside
       unfolding RightAlias
       target-asked inner inside q =
-          record { ready = a .ready; few = omega arith; tree = w .1 .target; end = w .3; reads = w .7; known = known-one inside list inner places (w .1 .target) q }
+          record {
+            ready = a .ready;
+            few = omega arith;
+            tree = w .1 .target;
+            end = w .3;
+            reads = w .7;
+            known = known-one inside list inner places (w .1 .target) q;
+            parameters = w .1 .parameters;
+            arguments = treeOf inner ∷ [];
+            stands = stands-one (f .names) s places inside list inner (w .1 .parameters) (w .2) q (w .6);
+          }
 
       pub target-less : rankAt (f .names) 32 s target < rankAt (f .names) levels s at
       unfolding RightAlias

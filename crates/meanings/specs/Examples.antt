@@ -3,13 +3,16 @@
 use Prim.Native.Nat.{ℕ}
 use mathlib.Core.Path.{_≡_, refl}
 use mathlib.Core.List.{List, [], _∷_, map}
+use mathlib.Core.Bool.{cond}
+use lib.Dec.{eqb}
 use Rattle.tree.specs.Tree.{Tree, leaf, primitive, named, qualified, wrap, optional, pair, mapOf, generic}
 use Rattle.slot.specs.Field.{none}
 use Rattle.slot.specs.Slot.{Slot, message, alias}
 use Rattle.image.specs.Schema.{Schema, slotOf}
 use Rattle.findings.specs.Meaning.{resolved, argumentOf, leafValue, valueOf, leafMeant, substitute, applied, meaningOf}
 use Rattle.meanings.specs.Rank.{rank, height, rankOf}
-use Rattle.meanings.specs.Places.{occurs}
+use Rattle.meanings.specs.Places.{occurs, lookedUp}
+use Rattle.meanings.specs.declared.Found.{Found}
 
 abbrev aliasSlot : List ℕ → Tree → Slot
 aliasSlot ps e = alias (record { parameters = ps; target = e })
@@ -67,7 +70,15 @@ pub ranks : rankOf schema (generic 3 (leaf (named 0))) ≡ 2
 unfolding rank height slotOf
 ranks = refl
 
+abbrev twice : Tree
+twice = pair mapOf (leaf (named 0)) (generic 2 (pair mapOf (leaf (named 1)) (leaf (qualified 3))))
+
 -- plain names are looked up at each occurrence, in generics too; a generic's own name and a qualified one are not
-pub look-ups : occurs (pair mapOf (leaf (named 0)) (generic 2 (pair mapOf (leaf (named 0)) (leaf (qualified 0))))) ≡ 2
+pub look-ups : occurs twice ≡ 2
 unfolding occurs
 look-ups = refl
+
+-- where the argument of name 0 stands at 9, and no other name has one: the places of names 0 and 1 are set, no others
+pub look-up-places : lookedUp (λ n. cond (eqb n 0) (Found.At 9) Found.Nothing) twice (0 ∷ 0 ∷ 0 ∷ 5 ∷ []) ≡ 11 ∷ 1 ∷ 0 ∷ 5 ∷ []
+unfolding lookedUp
+look-up-places = refl

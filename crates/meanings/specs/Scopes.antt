@@ -2,28 +2,71 @@
 use Prim.Native.Nat.{ℕ, suc, _≤_}
 use mathlib.Core.Path.{_≡_}
 use mathlib.Core.List.{List, [], _∷_}
+use mathlib.Core.Bool.{Bool, false, cond}
+use lib.Dec.{eqb}
 use lib.ListN.{getD}
-use Rattle.number.specs.Grammar.{name, number, counted, done, read}
-use Rattle.tree.specs.Tree.{Tree, Leaf, leaf, named, leafKind, leafNumber}
-use Rattle.tree.specs.TreeAt.{treeAt}
+use Rattle.number.specs.Grammar.{name, count, Grammar, _>>=_, number, many, counted, Outcome, done, refused, read}
+use Rattle.tree.specs.Tree.{Tree, Leaf, leaf, leafKind, leafNumber}
+use Rattle.tree.specs.TreeAt.{Node, none, one, two, sized, treeAt}
+use Rattle.tree.specs.TreeAt as node
 use Rattle.tree.specs.declared.Sort.the-variants.{Expression}
-use Rattle.slot.specs.Field.{typeAt, expressionAt}
+use Rattle.slot.specs.Field.{expressionAt}
 use Rattle.slot.specs.Slot.{Alias, alias}
 use Rattle.image.specs.Schema.{slotOf}
 use Rattle.image.specs.declared.Frame.{Frame}
 use Rattle.reader.specs.Reading.{schemaOf}
 use Rattle.reader.specs.Promise.{Promise}
-use Rattle.findings.specs.Meaning.{unfound, valueOf, leafMeant, substitute, slotFound, throughAlias, applied}
+use Rattle.findings.specs.Meaning.{unfound, idFound, leafValue, valueOf, leafMeant, substitute, slotFound, throughAlias, applied}
 use Rattle.findings.specs.declared.Value.{Value}
 use Rattle.meanings.specs.Rank.{rankOf}
-use Rattle.meanings.specs.Places.{AtNames, Known, Sound}
+use Rattle.meanings.specs.Places.{foundOf, AtNames, Known, Sound}
 use Rattle.meanings.specs.declared.Scope.{Scope}
 use Rattle.meanings.specs.declared.Meaning.{Meaning}
+use Rattle.meanings.specs.declared.Found.{Found}
 use Rattle.meanings.specs.declared.AliasAt.{AliasAt}
 
 -- a table of what each name finds
 pub record FindsHold (s finds : List ℕ) : Type 0 where
   pub entry : (n : ℕ) → getD finds n 0 ≡ getD (schemaOf s .finds) n 0
+
+-- whether a name is the first of a counted run; the others are not read
+unfoldable pub firstAt : (names : ℕ) → Grammar (List ℕ)
+firstAt names = do
+  c ← number count 65537
+  many (cond (eqb c 0) 0 1) (number name names)
+
+abbrev pub isFirst : (n : ℕ) → Outcome (List ℕ) → Bool
+isFirst n (done (v ∷ vs) m) = eqb v n
+isFirst n (done [] m) = false
+isFirst n (refused r p) = false
+
+-- the type at an argument's place, or else an id
+abbrev pub atPlace : Found → (id : ℕ) → Meaning
+atPlace (Found.At q) i = Meaning.Type q
+atPlace Found.Nothing i = Meaning.Id i
+
+abbrev pub ofValue : Value → Meaning
+ofValue (Value.Id i) = Meaning.Id i
+ofValue Value.NotName = Meaning.NotName
+
+-- what a plain name means, by the tables: an argument, or what it is resolved to
+unfoldable pub nameMeaning : (names : ℕ) → (s finds places : List ℕ) → Scope → (n : ℕ) → Meaning
+nameMeaning names s finds places Scope.Types n = atPlace (foundOf (getD places n 0)) (idFound (getD finds n 0))
+nameMeaning names s finds places (Scope.One p v) n = cond (isFirst n (read (firstAt names) s p)) (ofValue v) (Meaning.Id (idFound (getD finds n 0)))
+
+-- what a leaf means, by its kind and number: 3 is a plain name, 17 a qualified one
+unfoldable pub leafMeaning : (names : ℕ) → (s finds places : List ℕ) → Scope → (kind v : ℕ) → Meaning
+leafMeaning names s finds places scope kind v =
+    cond (eqb kind 3) (nameMeaning names s finds places scope v) (cond (eqb kind 17) (Meaning.Id (idFound (getD finds v 0))) Meaning.Itself)
+
+-- which slot a type names, by what stands in front of its children
+abbrev pub headValue : Outcome Node → Value
+headValue (done (none l) n) = leafValue l
+headValue (done (one w) n) = Value.NotName
+headValue (done (two p) n) = Value.NotName
+headValue (done sized n) = Value.NotName
+headValue (done (node.applied v) n) = Value.NotName
+headValue (refused r p) = Value.NotName
 
 -- the parameters and the types that a scope stands for; of an alias's one argument only which name it is, is known
 unfoldable pub Stands : (names : ℕ) → (s places : List ℕ) → Scope → (ps : List ℕ) → (ts : List Tree) → Type 0
@@ -36,18 +79,6 @@ unfoldable pub KnownIn : Scope → (places : List ℕ) → Tree → Type 0
 KnownIn Scope.Types places e = AtNames (Known places) e
 KnownIn (Scope.One p v) places e = Unit {0}
 
--- a scope of which every type is known whole
-unfoldable pub Whole : Scope → Type 0
-Whole Scope.Types = Unit {0}
-Whole (Scope.One p v) = ⊥
-
--- what an answer on the meaning x of a leaf l says
-unfoldable pub Told : (names : ℕ) → (s : List ℕ) → Scope → Leaf → (x : Tree) → Meaning → Type 0
-Told names s scope l x Meaning.Itself = (x ≡ leaf l) × (valueOf x ≡ Value.NotName)
-Told names s scope l x (Meaning.Id i) = x ≡ leaf (named i)
-Told names s scope l x (Meaning.Type q) = (end : ℕ) × (read (typeAt names) s q ≡ done x end)
-Told names s scope l x Meaning.NotName = (Whole scope → ⊥) × (valueOf x ≡ Value.NotName)
-
 -- where the alias is that a name finds
 unfoldable pub RightAlias : (names : ℕ) → (s : List ℕ) → (n : ℕ) → AliasAt → Type 0
 RightAlias names s n (AliasAt.At p q) =
@@ -58,25 +89,11 @@ RightAlias names s n AliasAt.Nothing =
     (f : Alias → ℕ) → throughAlias (slotFound (schemaOf s) (getD (schemaOf s .finds) n 0)) f ≡ unfound
 
 -- the contracts
-abbrev pub RightParameter : (names : ℕ) → (s finds places : List ℕ) → Scope → (n : ℕ) → Meaning → Type 0
-RightParameter names s finds places scope n r =
-    FindsHold s finds → (ps : List ℕ) (ts : List Tree) → Stands names s places scope ps ts → KnownIn scope places (leaf (named n))
-    → Told names s scope (named n) (leafMeant (schemaOf s) ps ts (named n)) r
-
-abbrev pub RightMeaning : (names : ℕ) → (s finds places : List ℕ) → Scope → (kind v : ℕ) → Meaning → Type 0
-RightMeaning names s finds places scope kind v r =
-    FindsHold s finds → (ps : List ℕ) (ts : List Tree) → Stands names s places scope ps ts
-    → (l : Leaf) → leafKind l ≡ kind → leafNumber l ≡ v → KnownIn scope places (leaf l)
-    → Told names s scope l (leafMeant (schemaOf s) ps ts l) r
-
 abbrev pub RightLeaf : (names : ℕ) → (s finds places : List ℕ) → Scope → (kind v : ℕ) → Value → Type 0
 RightLeaf names s finds places scope kind v r =
     FindsHold s finds → (ps : List ℕ) (ts : List Tree) → Stands names s places scope ps ts
     → (l : Leaf) → leafKind l ≡ kind → leafNumber l ≡ v → KnownIn scope places (leaf l)
     → r ≡ valueOf (leafMeant (schemaOf s) ps ts l)
-
-abbrev pub RightValue : (names : ℕ) → (s : List ℕ) → (at : ℕ) → Value → Type 0
-RightValue names s at r = (t : Tree) (end : ℕ) → read (typeAt names) s at ≡ done t end → r ≡ valueOf t
 
 -- which name an expression means, whatever the chain of aliases, if it is enough
 abbrev pub RightName : (names levels : ℕ) → (s places : List ℕ) → (at : ℕ) → Scope → Value → Type 0
@@ -91,7 +108,7 @@ pub record Ready (s starts : List ℕ) (f : Frame) (finds : List ℕ) : Type 0 w
   pub promise : Promise s starts f
   pub holds : FindsHold s finds
 
--- an expression was read, and its names were looked up if the scope asks for it
+-- an expression was read, its names were looked up if the scope asks for it, and the scope stands for something
 pub record Asked (s starts : List ℕ) (f : Frame) (finds places : List ℕ) (at levels : ℕ) (scope : Scope) : Type 0 where
   pub ready : Ready s starts f finds
   pub few : levels ≤ 32
@@ -99,3 +116,6 @@ pub record Asked (s starts : List ℕ) (f : Frame) (finds places : List ℕ) (at
   pub end : ℕ
   pub reads : read (treeAt Expression (f .names) levels) s at ≡ done tree end
   pub known : KnownIn scope places tree
+  pub parameters : List ℕ
+  pub arguments : List Tree
+  pub stands : Stands (f .names) s places scope parameters arguments

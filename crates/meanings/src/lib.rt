@@ -9,10 +9,13 @@ use view::Part;
 ghost use mathlib.Core.Path.{_≡_};
 ghost use Prim.Native.Nat.{_^_, _≤_};
 ghost use lib.ListN.{getD, set};
+ghost use Rattle.number.specs.Grammar.{read};
+ghost use Rattle.tree.specs.TreeAt.{headAt};
+ghost use Rattle.tree.specs.declared.Sort.{Sort};
 ghost use Rattle.findings.specs.Meaning.{idFound, idOr};
 ghost use Rattle.findings.specs.declared.Value.{Value};
-ghost use Rattle.meanings.specs.Places.{codeOf, RightFirst, RightArgumentIn, RightArgument, RightNote, RightLook};
-ghost use Rattle.meanings.specs.Scopes.{RightAlias, RightParameter, RightMeaning, RightLeaf, RightValue, RightName, Ready, Asked};
+ghost use Rattle.meanings.specs.Places.{codeOf, RightArgumentIn, RightArgument, RightNote, LookAsked, RightLook};
+ghost use Rattle.meanings.specs.Scopes.{firstAt, isFirst, nameMeaning, leafMeaning, headValue, RightAlias, RightLeaf, RightName, Ready, Asked};
 
 // What names stand for. Types: parameters, by the table of places. One: an alias's parameters at a place, and its one
 // argument, of which only is known which name it is.
@@ -93,7 +96,7 @@ fn resolve(finds: &[u16], n: u64) -> u64
 
 // Whether a name is the first of the parameters that stand at a place.
 fn is_first(image: &[u8], at: usize, names: u64, n: u64) -> bool
-    ensures { λ r. ⌜ RightFirst names (now (image .entry)) at n r ⌝ }
+    ensures { λ r. ⌜ r ≡ isFirst n (read (firstAt names) (now (image .entry)) at) ⌝ }
 {
     match number::read_below(image, at, 65537) {
         Ranged::Value(count, first) => {
@@ -105,7 +108,7 @@ fn is_first(image: &[u8], at: usize, names: u64, n: u64) -> bool
                 Ranged::Refused(_, q) => false,
             }
         }
-        Ranged::Refused(_, q) => false,
+        Ranged::Refused(_, place) => false,
     }
 }
 
@@ -218,7 +221,7 @@ pub fn look_up(
     arguments: u64,
     places: &mut [u32],
 ) -> Looked
-    requires { ⌜ levels ≤ 32 ⌝ }
+    requires { ⌜ LookAsked names levels (now image) at params start arguments ⌝ }
     ensures small { λ r. ⌜ r .count ≤ 2 ^ levels ⌝ }
     ensures right { λ r. ⌜ RightLook names levels (now (image .entry)) at params start arguments (now (places .entry)) (now (places .exit)) (r .count) (r .next) ⌝ }
 {
@@ -270,7 +273,7 @@ fn parameter_meaning(
     n: u64,
     scope: Scope,
 ) -> Meaning
-    ensures { λ r. ⌜ RightParameter names (now (image .entry)) (now (finds .entry)) (now (places .entry)) scope n r ⌝ }
+    ensures { λ r. ⌜ r ≡ nameMeaning names (now (image .entry)) (now (finds .entry)) (now (places .entry)) scope n ⌝ }
 {
     match scope {
         Scope::Types => {
@@ -305,7 +308,7 @@ pub fn leaf_meaning(
     v: u64,
     scope: Scope,
 ) -> Meaning
-    ensures { λ r. ⌜ RightMeaning names (now (image .entry)) (now (finds .entry)) (now (places .entry)) scope kind v r ⌝ }
+    ensures { λ r. ⌜ r ≡ leafMeaning names (now (image .entry)) (now (finds .entry)) (now (places .entry)) scope kind v ⌝ }
 {
     match kind {
         3 => parameter_meaning(image, finds, places, names, v, scope),
@@ -316,21 +319,18 @@ pub fn leaf_meaning(
 
 // Which slot the type at a place names.
 pub fn type_value(image: &[u8], at: usize, names: u64) -> Value
-    ensures { λ r. ⌜ RightValue names (now (image .entry)) at r ⌝ }
+    ensures { λ r. ⌜ r ≡ headValue (read (headAt Sort.Resolved names) (now (image .entry)) at) ⌝ }
 {
     match tree::read_head(image, at, Sort::Resolved, names) {
-        Head::Leaf(kind, _, v, _) => {
-            if kind == 3 {
-                Value::Id(v)
-            } else {
-                Value::NotName
-            }
-        }
+        Head::Leaf(kind, _, v, _) => match kind {
+            3 => Value::Id(v),
+            _ => Value::NotName,
+        },
         Head::One(_, q) => Value::NotName,
         Head::Two(_, q) => Value::NotName,
         Head::Sized(q) => Value::NotName,
         Head::Generic(_, q) => Value::NotName,
-        Head::Refused(_, q) => Value::NotName,
+        Head::Refused(_, place) => Value::NotName,
     }
 }
 

@@ -5,7 +5,7 @@ use mathlib.Core.Path.{_≡_}
 use lib.ListN.{length, length-replicate}
 use Rattle.findings.proofs.Adding.{adds-kept}
 use Rattle.conformance.specs.Adding.{Targeted}
-use Rattle.conformance.proofs.Required.{finds-hold, Going, at-start, at-end, search-asked, going-on}
+use Rattle.conformance.proofs.Required.{finds-hold, Going, at-start, at-end, look-asked, search-asked, going-on}
 use Rattle.conformance.proofs.check_required_fields.Statement.{statement}
 use Rattle.conformance.proofs.check_required_fields.Tie as tie
 
@@ -29,7 +29,7 @@ check-required-fields-spec =
     (λ c κs. search needs)
     (λ c. search needs)
     (λ c. search needs)
-    (λ c κs. omega arith)
+    (λ c κs. look-asked _ _ _ _ _ _ _ _ _ _ _ _ _ _ (c .before .before .before .if1 .taken) _ _ (c .before .before .take2 .ensures) (c .before .before .before .before .before .before .before .before .before .before .before .before .before .before .pre) (c .before .before .before .before .before .loop .inv .1 (c .before .before .before .before .before .before .before .before .before .before .before .before .before .before .pre)))
     (λ c. search needs)
     (λ c. search needs)
     (λ c. search needs)

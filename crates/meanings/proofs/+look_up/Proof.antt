@@ -1,7 +1,7 @@
 use mathlib.Core.Path.{sym, _∙_}
 use lib.Pow.{pow-pos, pow-mono}
 use Rattle.number.proofs.Reading.{told}
-use Rattle.meanings.proofs.Noting.{double, look-deep, look-leaf, look-one, look-generic, look-two, look-sized, look-cut, look-refused}
+use Rattle.meanings.proofs.Noting.{double, some-level, one-inside, generic-inside, sized-inside, first-inside, second-inside, never-refused, never-cut, look-leaf, look-one, look-generic, look-two, look-sized}
 use native.Mathlib.Omega.{arith}
 use borrow.Author.Needs.{needs}
 use Prim.Native.Nat.{ℕ, _<_}
@@ -39,7 +39,7 @@ look-up-known t = (
 
 -- src/lib.rt:234:9
 look-up-returns : (t : ℕ) → look-up-lts.Need-returns (look-up-known t) (look-up-at t) look-up.Post
-look-up-returns t c = (omega arith, look-deep _ _ _ _ _ _ _ _ (c .if1 .taken) _ _ _)
+look-up-returns t c = absurd (some-level _ _ _ _ _ _ _ (c .before .before .before .pre .1) (c .if1 .taken))
 
 -- src/lib.rt:236:18
 look-up-sub-inside : (t : ℕ) → look-up-lts.Need-sub-inside (look-up-known t) (look-up-at t) look-up.Post
@@ -63,7 +63,7 @@ look-up-enum-known-body t c = search needs
 
 -- src/lib.rt:243:13
 look-up-look-up-requires : (t : ℕ) → look-up-lts.Need-look-up-requires (look-up-known t) (look-up-at t) look-up.Post
-look-up-look-up-requires t c κs = (omega arith, search needs)
+look-up-look-up-requires t c κs = (omega arith, one-inside _ _ _ _ _ _ _ (c .before .before .before .before .before .before .before .before .pre .1) _ _ (sym (c .before .before .before .before .read-head .ensures) ∙ c .before .before .body .given .1))
 
 -- src/lib.rt:245:22
 look-up-enum-known-body-2 : (t : ℕ) → look-up-lts.Need-enum-known-body-2 (look-up-known t) (look-up-at t) look-up.Post
@@ -71,15 +71,15 @@ look-up-enum-known-body-2 t c = search needs
 
 -- src/lib.rt:246:17
 look-up-look-up-requires-2 : (t : ℕ) → look-up-lts.Need-look-up-requires-2 (look-up-known t) (look-up-at t) look-up.Post
-look-up-look-up-requires-2 t c κs = (omega arith, search needs)
+look-up-look-up-requires-2 t c κs = (omega arith, first-inside _ _ _ _ _ _ _ (c .before .before .before .before .before .before .before .before .pre .1) _ _ (sym (c .before .before .before .before .read-head .ensures) ∙ c .before .before .body2 .given .1))
 
 -- src/lib.rt:248:17
 look-up-look-up-requires-3 : (t : ℕ) → look-up-lts.Need-look-up-requires-3 (look-up-known t) (look-up-at t) look-up.Post
-look-up-look-up-requires-3 t c κs = (omega arith, search needs)
+look-up-look-up-requires-3 t c κs = (omega arith, second-inside _ _ _ _ _ _ _ _ _ _ (sym (c .before .before .before .before .before .before .before .before .read-head .ensures) ∙ c .before .before .before .before .before .before .body2 .given .1) _ _ _ (c .before .before .before .look-up2 .ensures .1) (c .before .before .before .before .before .before .before .before .before .before .before .before .pre .1))
 
 -- src/lib.rt:250:24
 look-up-add-t38 : (t : ℕ) → look-up-lts.Need-add-t38 (look-up-known t) (look-up-at t) look-up.Post
-look-up-add-t38 t c = omega (arith, c .before .before .before .before .before .before .before .before .look-up2 .ensures .0, c .before .before .before .before .look-up3 .ensures .0, double (c .before .before .before .before .before .before .before .before .before .before .before .before .before .before .before .before .before .args .levels) (c .before .before .before .before .before .before .before .before .before .before .before .before .before .before .if1 .left), pow-mono (c .before .before .before .before .before .before .before .before .before .before .before .before .before .before .before .before .before .pre .1))
+look-up-add-t38 t c = omega (arith, c .before .before .before .before .before .before .before .before .look-up2 .ensures .0, c .before .before .before .before .look-up3 .ensures .0, double (c .before .before .before .before .before .before .before .before .before .before .before .before .before .before .before .before .before .args .levels) (c .before .before .before .before .before .before .before .before .before .before .before .before .before .before .if1 .left), pow-mono (c .before .before .before .before .before .before .before .before .before .before .before .before .before .before .before .before .before .pre .1 .few))
 
 -- src/lib.rt:254:21
 look-up-enum-known-body-3 : (t : ℕ) → look-up-lts.Need-enum-known-body-3 (look-up-known t) (look-up-at t) look-up.Post
@@ -87,7 +87,7 @@ look-up-enum-known-body-3 t c = search needs
 
 -- src/lib.rt:255:17
 look-up-look-up-requires-4 : (t : ℕ) → look-up-lts.Need-look-up-requires-4 (look-up-known t) (look-up-at t) look-up.Post
-look-up-look-up-requires-4 t c κs = (omega arith, search needs)
+look-up-look-up-requires-4 t c κs = (omega arith, sized-inside _ _ _ _ _ _ _ (c .before .before .before .before .before .before .before .before .pre .1) _ (sym (c .before .before .before .before .read-head .ensures) ∙ c .before .before .body3 .given .1))
 
 -- src/lib.rt:257:19
 look-up-read-whole-requires : (t : ℕ) → look-up-lts.Need-read-whole-requires (look-up-known t) (look-up-at t) look-up.Post
@@ -107,7 +107,7 @@ look-up-enum-known-body-4 t c = search needs
 
 -- src/lib.rt:266:13
 look-up-look-up-requires-5 : (t : ℕ) → look-up-lts.Need-look-up-requires-5 (look-up-known t) (look-up-at t) look-up.Post
-look-up-look-up-requires-5 t c κs = (omega arith, search needs)
+look-up-look-up-requires-5 t c κs = (omega arith, generic-inside _ _ _ _ _ _ _ (c .before .before .before .before .before .before .before .before .pre .1) _ _ (sym (c .before .before .before .before .read-head .ensures) ∙ c .before .before .body4 .given .1))
 
 -- src/lib.rt:268:26
 look-up-enum-known-q-2 : (t : ℕ) → look-up-lts.Need-enum-known-q-2 (look-up-known t) (look-up-at t) look-up.Post
@@ -119,7 +119,7 @@ look-up-same-length t c = search needs
 
 -- src/lib.rt:219:1
 look-up-returns-2 : (t : ℕ) → look-up-lts.Need-returns-2 (look-up-known t) (look-up-at t) look-up.Post
-look-up-returns-2 t c = (omega (arith, c .before .before .note .ensures .0, pow-pos (c .before .before .before .before .before .before .before .before .before .before .before .args .levels)), look-leaf _ _ _ _ _ _ _ _ (c .before .before .before .before .before .before .before .before .if1 .left) _ _ _ _ (sym (c .before .before .before .before .before .before .before .read-head .ensures) ∙ c .before .before .before .before .before .kind .given .1) _ _ (c .before .before .note .ensures .1))
+look-up-returns-2 t c = (omega (arith, c .before .before .note .ensures .0, pow-pos (c .before .before .before .before .before .before .before .before .before .before .before .args .levels)), look-leaf _ _ _ _ _ _ _ _ _ _ _ _ (sym (c .before .before .before .before .before .before .before .read-head .ensures) ∙ c .before .before .before .before .before .kind .given .1) _ _ (c .before .before .note .ensures .1))
 
 -- src/lib.rt:219:1
 look-up-same-length-2 : (t : ℕ) → look-up-lts.Need-same-length-2 (look-up-known t) (look-up-at t) look-up.Post
@@ -127,7 +127,7 @@ look-up-same-length-2 t c = search needs
 
 -- src/lib.rt:219:1
 look-up-returns-3 : (t : ℕ) → look-up-lts.Need-returns-3 (look-up-known t) (look-up-at t) look-up.Post
-look-up-returns-3 t c = (omega (arith, c .before .before .look-up .ensures .0, double (c .before .before .before .before .before .before .before .before .before .before .before .args .levels) (c .before .before .before .before .before .before .before .before .if1 .left)), look-one _ _ _ _ _ _ _ _ (c .before .before .before .before .before .before .before .before .if1 .left) _ _ (sym (c .before .before .before .before .before .before .before .read-head .ensures) ∙ c .before .before .before .before .before .body .given .1) _ _ _ (c .before .before .look-up .ensures .1))
+look-up-returns-3 t c = (omega (arith, c .before .before .look-up .ensures .0, double (c .before .before .before .before .before .before .before .before .before .before .before .args .levels) (c .before .before .before .before .before .before .before .before .if1 .left)), look-one _ _ _ _ _ _ _ _ _ _ (sym (c .before .before .before .before .before .before .before .read-head .ensures) ∙ c .before .before .before .before .before .body .given .1) _ _ _ (c .before .before .look-up .ensures .1))
 
 -- src/lib.rt:219:1
 look-up-same-length-3 : (t : ℕ) → look-up-lts.Need-same-length-3 (look-up-known t) (look-up-at t) look-up.Post
@@ -135,7 +135,7 @@ look-up-same-length-3 t c = search needs
 
 -- src/lib.rt:219:1
 look-up-returns-4 : (t : ℕ) → look-up-lts.Need-returns-4 (look-up-known t) (look-up-at t) look-up.Post
-look-up-returns-4 t c = (omega (arith, c .before .before .before .before .before .before .before .before .look-up2 .ensures .0, c .before .before .before .before .look-up3 .ensures .0, double (c .before .before .before .before .before .before .before .before .before .before .before .before .before .before .before .before .before .args .levels) (c .before .before .before .before .before .before .before .before .before .before .before .before .before .before .if1 .left)), look-two _ _ _ _ _ _ _ _ (c .before .before .before .before .before .before .before .before .before .before .before .before .before .before .if1 .left) _ _ (sym (c .before .before .before .before .before .before .before .before .before .before .before .before .before .read-head .ensures) ∙ c .before .before .before .before .before .before .before .before .before .before .before .body2 .given .1) _ _ _ _ _ _ (c .before .before .before .before .before .before .before .before .look-up2 .ensures .1) (c .before .before .before .before .look-up3 .ensures .1))
+look-up-returns-4 t c = (omega (arith, c .before .before .before .before .before .before .before .before .look-up2 .ensures .0, c .before .before .before .before .look-up3 .ensures .0, double (c .before .before .before .before .before .before .before .before .before .before .before .before .before .before .before .before .before .args .levels) (c .before .before .before .before .before .before .before .before .before .before .before .before .before .before .if1 .left)), look-two _ _ _ _ _ _ _ _ _ _ (sym (c .before .before .before .before .before .before .before .before .before .before .before .before .before .read-head .ensures) ∙ c .before .before .before .before .before .before .before .before .before .before .before .body2 .given .1) _ _ _ (c .before .before .before .before .before .before .before .before .look-up2 .ensures .1) _ _ _ (c .before .before .before .before .look-up3 .ensures .1))
 
 -- src/lib.rt:219:1
 look-up-same-length-4 : (t : ℕ) → look-up-lts.Need-same-length-4 (look-up-known t) (look-up-at t) look-up.Post
@@ -143,7 +143,7 @@ look-up-same-length-4 t c = search needs
 
 -- src/lib.rt:219:1
 look-up-returns-5 : (t : ℕ) → look-up-lts.Need-returns-5 (look-up-known t) (look-up-at t) look-up.Post
-look-up-returns-5 t c = (omega (arith, c .before .before .before .before .before .before .look-up4 .ensures .0, double (c .before .before .before .before .before .before .before .before .before .before .before .before .before .before .before .args .levels) (c .before .before .before .before .before .before .before .before .before .before .before .before .if1 .left)), look-sized _ _ _ _ _ _ _ _ (c .before .before .before .before .before .before .before .before .before .before .before .before .if1 .left) _ (sym (c .before .before .before .before .before .before .before .before .before .before .before .read-head .ensures) ∙ c .before .before .before .before .before .before .before .before .before .body3 .given .1) _ _ _ (c .before .before .before .before .before .before .look-up4 .ensures .1) _ _ (told (c .before .before .before .read-whole .ensures) (c .before .end .given .1)))
+look-up-returns-5 t c = (omega (arith, c .before .before .before .before .before .before .look-up4 .ensures .0, double (c .before .before .before .before .before .before .before .before .before .before .before .before .before .before .before .args .levels) (c .before .before .before .before .before .before .before .before .before .before .before .before .if1 .left)), look-sized _ _ _ _ _ _ _ _ _ (sym (c .before .before .before .before .before .before .before .before .before .before .before .read-head .ensures) ∙ c .before .before .before .before .before .before .before .before .before .body3 .given .1) _ _ _ (c .before .before .before .before .before .before .look-up4 .ensures .1) _ _ (told (c .before .before .before .read-whole .ensures) (c .before .end .given .1)))
 
 -- src/lib.rt:219:1
 look-up-same-length-5 : (t : ℕ) → look-up-lts.Need-same-length-5 (look-up-known t) (look-up-at t) look-up.Post
@@ -151,7 +151,7 @@ look-up-same-length-5 t c = search needs
 
 -- src/lib.rt:219:1
 look-up-returns-6 : (t : ℕ) → look-up-lts.Need-returns-6 (look-up-known t) (look-up-at t) look-up.Post
-look-up-returns-6 t c = (omega arith, look-cut _ _ _ _ _ _ _ _ (c .before .before .before .before .before .before .before .before .before .before .before .before .if1 .left) _ (sym (c .before .before .before .before .before .before .before .before .before .before .before .read-head .ensures) ∙ c .before .before .before .before .before .before .before .before .before .body3 .given .1) _ _ _ (c .before .before .before .before .before .before .look-up4 .ensures .1) _ _ (told (c .before .before .before .read-whole .ensures) (c .before .q .given .1)) _ _)
+look-up-returns-6 t c = absurd (never-cut _ _ _ _ _ _ _ _ _ (sym (c .before .before .before .before .before .before .before .before .before .before .before .read-head .ensures) ∙ c .before .before .before .before .before .before .before .before .before .body3 .given .1) _ _ _ (c .before .before .before .before .before .before .look-up4 .ensures .1) _ _ (told (c .before .before .before .read-whole .ensures) (c .before .q .given .1)) (c .before .before .before .before .before .before .before .before .before .before .before .before .before .before .before .pre .1))
 
 -- src/lib.rt:219:1
 look-up-same-length-6 : (t : ℕ) → look-up-lts.Need-same-length-6 (look-up-known t) (look-up-at t) look-up.Post
@@ -159,11 +159,11 @@ look-up-same-length-6 t c = search needs
 
 -- src/lib.rt:219:1
 look-up-returns-7 : (t : ℕ) → look-up-lts.Need-returns-7 (look-up-known t) (look-up-at t) look-up.Post
-look-up-returns-7 t c = (omega (arith, c .before .before .look-up5 .ensures .0, double (c .before .before .before .before .before .before .before .before .before .before .before .args .levels) (c .before .before .before .before .before .before .before .before .if1 .left)), look-generic _ _ _ _ _ _ _ _ (c .before .before .before .before .before .before .before .before .if1 .left) _ _ (sym (c .before .before .before .before .before .before .before .read-head .ensures) ∙ c .before .before .before .before .before .body4 .given .1) _ _ _ (c .before .before .look-up5 .ensures .1))
+look-up-returns-7 t c = (omega (arith, c .before .before .look-up5 .ensures .0, double (c .before .before .before .before .before .before .before .before .before .before .before .args .levels) (c .before .before .before .before .before .before .before .before .if1 .left)), look-generic _ _ _ _ _ _ _ _ _ _ (sym (c .before .before .before .before .before .before .before .read-head .ensures) ∙ c .before .before .before .before .before .body4 .given .1) _ _ _ (c .before .before .look-up5 .ensures .1))
 
 -- src/lib.rt:219:1
 look-up-returns-8 : (t : ℕ) → look-up-lts.Need-returns-8 (look-up-known t) (look-up-at t) look-up.Post
-look-up-returns-8 t c = (omega arith, look-refused _ _ _ _ _ _ _ _ (c .before .before .before .before .if1 .left) _ _ (sym (c .before .before .before .read-head .ensures) ∙ c .before .q2 .given .1) _ _ _)
+look-up-returns-8 t c = absurd (never-refused _ _ _ _ _ _ _ (c .before .before .before .before .before .before .before .pre .1) _ _ (sym (c .before .before .before .read-head .ensures) ∙ c .before .q2 .given .1))
 
 pub +look-up-spec : {M : Type 1} → statement M
 +look-up-spec = close μ-look-up λ t. look-up-lts.spec (look-up-known t) (look-up-at t)

@@ -1,4 +1,3 @@
-use borrow.Author.Needs.{needs}
 use native.Mathlib.Omega.{arith}
 use Rattle.findings.proofs.Adding.{adds-kept}
 use Rattle.recursion.proofs.Checking.{Putting, put-start, put-on, put-end}
