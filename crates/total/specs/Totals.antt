@@ -1,51 +1,38 @@
--- A running total, and the size that it stands for.
-use Prim.Native.Nat.{ℕ, _≤_}
-use mathlib.Core.Path.{_≡_}
-use mathlib.Core.Bool.{Bool, true, false, not}
-use mathlib.Core.Option.{Option, none, some}
-use lib.Dec.{ltb}
+-- A running total: three numbers, and the size that they stand for.
+use Prim.Native.Nat.{ℕ, zero, suc}
+use mathlib.Core.List.{List, [], _∷_}
+use lib.ListN.{getD}
 use Rattle.sizes.specs.declared.Size.{Size}
-use Rattle.sizes.specs.declared.Operation.{Operation}
-use Rattle.sizes.specs.declared.Operation.the-variants.{Sum}
+use Rattle.sizes.specs.declared.Size.the-variants.{Fixed, Bounded, Open}
 use Rattle.sizes.specs.declared.Worked.{Worked}
 use Rattle.sizes.specs.declared.Worked.the-variants.{Sized, Over}
-use Rattle.sizes.specs.Sizes.{smallest, largest, isFixed, limit, marked, then, limitedSum, added}
-use Rattle.measures.specs.Cut.{highOf}
-use Rattle.measures.specs.declared.Bound.{Bound}
-use Rattle.total.specs.declared.Total.{Total}
-use Rattle.total.specs.declared.Raised.{Raised}
+use Rattle.sizes.specs.Sizes.{then, limitedSum, added}
+use Rattle.total.specs.declared.Step.{Step}
 
--- Fixed until a field varies
-unfoldable pub sizeOf : Total → Size
-sizeOf t = marked (not (t .variable)) (t .smallest) (highOf (t .largest))
+-- smallest; largest, 0 if there is none; and the mark: 0 Fixed, 1 variable with a largest, 2 without
+abbrev pub totalOf : Size → List ℕ
+totalOf (Fixed b) = b ∷ b ∷ 0 ∷ []
+totalOf (Bounded l h) = l ∷ h ∷ 1 ∷ []
+totalOf (Open l) = l ∷ 0 ∷ 2 ∷ []
 
-abbrev pub boundOf : Option ℕ → Bound
-boundOf (some h) = Bound.Most h
-boundOf none = Bound.None
+abbrev pub markedSize : (mark smallest largest : ℕ) → Size
+markedSize zero l h = Fixed l
+markedSize (suc zero) l h = Bounded l h
+markedSize (suc (suc m)) l h = Open l
 
-abbrev pub totalOf : Size → Total
-totalOf s = record { smallest = smallest s; largest = boundOf (largest s); variable = not (isFixed s) }
-
--- a total so far: until a field varies, the largest is the smallest
-pub record Running (t : Total) : Type 0 where
-  pub ends : t .variable ≡ false → highOf (t .largest) ≡ some (t .smallest)
-  pub small : t .smallest ≤ limit
-
--- a largest that passes the limit
-abbrev pub beyond : Option ℕ → Bool
-beyond (some h) = ltb limit h
-beyond none = false
-
--- a total that comes to a sum, or is as it was
-unfoldable pub after : Total → (sum : Worked) → Raised
-after t (Sized s) = record { total = totalOf s; ok = true }
-after t (Over o) = record { total = t; ok = false }
-
--- what passed the limit, where a field could not be added
-abbrev pub stoppedBy : Worked → Operation
-stoppedBy (Sized s) = Sum
-stoppedBy (Over o) = o
+unfoldable pub sizeOf : (total : List ℕ) → Size
+sizeOf t = markedSize (getD t 2 0) (getD t 0 0) (getD t 1 0)
 
 -- with one field more, by the definition's sum
-abbrev pub withField : Total → (field : Worked) → Raised
-withField t field = after t (then field (λ s. limitedSum (added (sizeOf t) s)))
+abbrev pub sumOf : (total : List ℕ) → (field : Worked) → Worked
+sumOf t field = then field (λ s. limitedSum (added (sizeOf t) s))
+
+-- a total that comes to a sum, or is as it was
+unfoldable pub totalAfter : (total : List ℕ) → (sum : Worked) → List ℕ
+totalAfter t (Sized s) = totalOf s
+totalAfter t (Over o) = t
+
+-- the next field, or what passed the limit
+abbrev pub stepOf : (sum : Worked) → Step
+stepOf (Sized s) = Step.On
+stepOf (Over o) = Step.Over o

@@ -1,133 +1,67 @@
-// The running total of a message's fields, or of a variant's: added to by value below, lent above.
-use measures::Bound;
+// The running total of a message's fields, or of a variant's: smallest, largest and mark, lent to the step that adds a field.
 use sizes::Operation;
 use sizes::Size;
 use sizes::Worked;
 ghost use mathlib.Core.Path.{_≡_};
-ghost use mathlib.Core.Bool.{_||_, not};
-ghost use Rattle.sizes.specs.Sizes.{isFixed, limitedSum, added};
-ghost use Rattle.measures.specs.Cut.{highOf};
-ghost use Rattle.total.specs.Totals.{sizeOf, totalOf, beyond, Running, after, withField, stoppedBy};
+ghost use Rattle.sizes.specs.Sizes.{then, limitedSum, added};
+ghost use Rattle.total.specs.Totals.{sizeOf, totalOf, sumOf, totalAfter, stepOf};
 
-// Smallest, and largest if every field has one, of the fields so far; the mark is set once a field is not Fixed.
-pub struct Total {
-    pub smallest: u64,
-    pub largest: Bound,
-    pub variable: bool,
-}
-
-// A total after a field; as it was, where the field was not worked out or a number passed the limit.
-pub struct Raised {
-    pub total: Total,
-    pub ok: bool,
+// The field was added, or what passed the limit.
+pub enum Step {
+    On,
+    Over(Operation),
 }
 
 // Of no fields.
-pub fn empty_total() -> Total
+pub fn empty_total() -> [u64; 3]
     ensures { λ r. ⌜ r ≡ totalOf (Size.Fixed 0) ⌝ }
 {
-    Total {
-        smallest: 0,
-        largest: Bound::Most(0),
-        variable: false,
+    [0, 0, 0]
+}
+
+fn total_of(size: Size) -> [u64; 3]
+    ensures { λ r. ⌜ r ≡ totalOf size ⌝ }
+{
+    match size {
+        Size::Fixed(b) => [b, b, 0],
+        Size::Bounded(l, h) => [l, h, 1],
+        Size::Open(l) => [l, 0, 2],
     }
 }
 
 // The size that a total comes to.
-pub fn total_size(total: Total) -> Size
+pub fn total_size(total: [u64; 3]) -> Size
     ensures { λ r. ⌜ r ≡ sizeOf total ⌝ }
 {
-    if total.variable {
-        let largest = total.largest;
-        return measures::vary(total.smallest, largest);
-    }
-    Size::Fixed(total.smallest)
-}
-
-fn now_varies(variable: bool, size: Size) -> bool
-    ensures { λ r. ⌜ r ≡ (variable || not (isFixed size)) ⌝ }
-{
-    if variable {
-        return true;
-    }
-    match size {
-        Size::Fixed(_) => false,
-        Size::Bounded(_, _) => true,
-        Size::Open(_) => true,
-    }
-}
-
-fn passes(bound: Bound) -> bool
-    ensures { λ r. ⌜ r ≡ beyond (highOf bound) ⌝ }
-{
-    match bound {
-        Bound::Most(h) => h > 9223372036854775807,
-        Bound::None => false,
+    let smallest = total[0];
+    let largest = total[1];
+    let mark = total[2];
+    match mark {
+        0 => Size::Fixed(smallest),
+        1 => Size::Bounded(smallest, largest),
+        _ => Size::Open(smallest),
     }
 }
 
 // The addition, by value.
-fn add(total: Total, size: Size) -> Raised
-    requires { ⌜ Running total ⌝ }
-    ensures { λ r. ⌜ r ≡ after total (limitedSum (added (sizeOf total) size)) ⌝ }
-{
-    let low = measures::wire_size_min_bits(size);
-    if 9223372036854775807 - total.smallest < low {
-        return Raised { total, ok: false };
-    }
-    let smallest = total.smallest + low;
-    let most = total.largest;
-    let largest = measures::sum_bounds(most, measures::wire_size_max_bits(size));
-    if passes(largest) {
-        return Raised { total, ok: false };
-    }
-    let variable = now_varies(total.variable, size);
-    Raised {
-        total: Total {
-            smallest,
-            largest,
-            variable,
-        },
-        ok: true,
-    }
-}
-
-fn add_worked(total: Total, field: Worked) -> Raised
-    requires { ⌜ Running total ⌝ }
-    ensures { λ r. ⌜ r ≡ withField total field ⌝ }
+fn add(total: Size, field: Worked) -> Worked
+    ensures { λ r. ⌜ r ≡ then field (λ s. limitedSum (added total s)) ⌝ }
 {
     match field {
-        Worked::Sized(size) => add(total, size),
-        Worked::Over(_) => Raised { total, ok: false },
-    }
-}
-
-// What passed the limit where a field could not be added: the field's own refusal, or else the sum.
-pub fn stopped_by(field: Worked) -> Operation
-    ensures { λ r. ⌜ r ≡ stoppedBy field ⌝ }
-{
-    match field {
-        Worked::Sized(_) => Operation::Sum,
-        Worked::Over(by) => by,
+        Worked::Sized(size) => measures::add_wire_size(total, size),
+        Worked::Over(by) => Worked::Over(by),
     }
 }
 
 // The total is lent, and raised in place.
-pub fn add_field(total: &mut Total, field: Worked) -> bool
-    requires { ⌜ Running (now total) ⌝ }
-    ensures { λ r. ⌜ _≡_ {A = Raised} record { total = now (total .exit); ok = r } (withField (now (total .entry)) field) ⌝ }
+pub fn add_field(total: &mut [u64; 3], field: Worked) -> Step
+    ensures { λ r. ⌜ (now (total .exit) ≡ totalAfter (now (total .entry)) (sumOf (now (total .entry)) field)) × (r ≡ stepOf (sumOf (now (total .entry)) field)) ⌝ }
 {
-    let raised = add_worked(*total, field);
-    *total = raised.total;
-    raised.ok
-}
-
-// A step of a loop: it lends a total of its own, so that the loop's proof needs no walk.
-pub fn with_field(total: Total, field: Worked) -> Raised
-    requires { ⌜ Running total ⌝ }
-    ensures { λ r. ⌜ r ≡ withField total field ⌝ }
-{
-    let mut lent = total;
-    let ok = add_field(&mut lent, field);
-    Raised { total: lent, ok }
+    match add(total_size(*total), field) {
+        Worked::Sized(sum) => {
+            *total = total_of(sum);
+            Step::On
+        }
+        Worked::Over(by) => Step::Over(by),
+    }
 }

@@ -10,15 +10,15 @@ use Rattle.slot.specs.Field.{Field, fieldAt, fieldsAt}
 use Rattle.reader.specs.Reading.{schemaOf}
 use Rattle.sizes.specs.declared.Size.{Size}
 use Rattle.sizes.specs.declared.Size.the-variants.{Fixed}
+use Rattle.sizes.specs.declared.Operation.{Operation}
 use Rattle.sizes.specs.declared.Worked.{Worked}
 use Rattle.sizes.specs.declared.Worked.the-variants.{Sized, Over}
-use Rattle.sizes.specs.Sizes.{smallest, limit, then, limitedSum, Resolver, fieldSize, added, addFields, fieldsSize}
+use Rattle.sizes.specs.Sizes.{then, limitedSum, Resolver, fieldSize, added, addFields, fieldsSize}
 use Rattle.sizes.specs.Steps.{then-made}
 use Rattle.sizes.specs.Names.{State}
-use Rattle.total.specs.Totals.{sizeOf, totalOf, Running, withField, stoppedBy}
-use Rattle.total.specs.declared.Total.{Total}
-use Rattle.total.specs.declared.Raised.{Raised}
-use Rattle.total.proofs.Totals.{size-back, running, stepped, stopped, sum-small}
+use Rattle.total.specs.Totals.{sizeOf, totalOf, sumOf, totalAfter, stepOf}
+use Rattle.total.specs.declared.Step.{Step}
+use Rattle.total.proofs.Totals.{size-back, stepped, stopped}
 use Rattle.wiresize.specs.Rows.{RowsHold}
 use Rattle.wiresize.specs.Asked.{Walks, resolver}
 use Rattle.wiresize.specs.declared.Walked.{Walked}
@@ -62,10 +62,9 @@ module _ (s : List ℕ) (names : ℕ) (rows : List ℕ) (w : List Bool) (fieldCo
   Whole fs e = read (many fieldCount (fieldAt names)) s first ≡ done fs e
 
   -- the fields from `here` on, onto the running total, come to what all fields come to
-  pub record FieldsLeft (left here : ℕ) (total : Total) : Type 0 where
+  pub record FieldsLeft (left here : ℕ) (total : List ℕ) : Type 0 where
     pub sum : Size
     pub stands : total ≡ totalOf sum
-    pub small : smallest sum ≤ limit
     pub fields : List Field
     pub end : ℕ
     pub reads : read (many left (fieldAt names)) s here ≡ done fields end
@@ -73,14 +72,11 @@ module _ (s : List ℕ) (names : ℕ) (rows : List ℕ) (w : List Bool) (fieldCo
     pub totals : (fs : List Field) (e : ℕ) → Whole fs e → (st : State) → RowsHold (schemaOf s) st rows
         → addFields (resolver s st w) sum fields ≡ fieldsSize (resolver s st w) fs
 
-  pub fields-start : (fs : List Field) (e : ℕ) → Whole fs e → {total : Total} → total ≡ totalOf (Fixed 0) → FieldsLeft fieldCount first total
+  pub fields-start : (fs : List Field) (e : ℕ) → Whole fs e → {total : List ℕ} → total ≡ totalOf (Fixed 0) → FieldsLeft fieldCount first total
   fields-start fs e q i =
-      record { sum = Fixed 0; stands = i; small = omega arith; fields = fs; end = e; reads = q; ends = λ xs d p. same-thing q p .1; totals = λ xs d p st H. ap (fieldsSize (resolver s st w)) (same-thing q p .0) }
+      record { sum = Fixed 0; stands = i; fields = fs; end = e; reads = q; ends = λ xs d p. same-thing q p .1; totals = λ xs d p st H. ap (fieldsSize (resolver s st w)) (same-thing q p .0) }
 
-  module _ {left here : ℕ} {total : Total} (l : FieldsLeft left here total) where
-    pub total-runs : Running total
-    total-runs = running (l .sum) (l .stands) (l .small)
-
+  module _ {left here : ℕ} {total : List ℕ} (l : FieldsLeft left here total) where
     pub next-field : 0 < left → Front (fieldAt names) s (left - 1) here (l .fields) (l .end)
     next-field h = first-of (fieldAt names) s left here h (l .fields) (l .end) (l .reads)
 
@@ -88,24 +84,23 @@ module _ (s : List ℕ) (names : ℕ) (rows : List ℕ) (w : List Bool) (fieldCo
       worked-as : (st : State) → RowsHold (schemaOf s) st rows → r .worked ≡ fieldSize (resolver s st w) (next-field h .first)
       worked-as st H = walks .works .worked _ _ (next-field h .here) st H
 
-      module _ {r′ : Raised} (adds : r′ ≡ withField total (r .worked)) where
+      module _ {total′ : List ℕ} {step : Step} (adds : (total′ ≡ totalAfter total (sumOf total (r .worked))) × (step ≡ stepOf (sumOf total (r .worked)))) where
         onward : {w′ : Worked} → then (r .worked) (λ z. limitedSum (added (l .sum) z)) ≡ w′ → (st : State) → RowsHold (schemaOf s) st rows
             → addFields (resolver s st w) (l .sum) (l .fields) ≡ then w′ (λ y. addFields (resolver s st w) y (next-field h .others))
         onward e st H =
             let f = next-field h in
             ap (addFields (resolver s st w) (l .sum)) (f .whole) ∙ total-on _ (l .sum) (f .first) (f .others) (worked-as st H) (sym e)
 
-        pub field-turn : r′ .ok ≡ true → FieldsLeft (left - 1) (r .next) (r′ .total)
+        pub field-turn : step ≡ Step.On → FieldsLeft (left - 1) (r .next) total′
         unfolding then
         field-turn o =
             let f = next-field h in
-            let a = stepped (l .sum) (l .stands) (r .worked) adds o in
+            let a = stepped (l .sum) (l .stands) (r .worked) (adds .0) (adds .1) o in
             let m = then-made (r .worked) _ _ (a .1) in
             let n = walks .next _ _ (f .here) (m .part) (m .given) in
             record {
               sum = a .0;
               stands = a .2;
-              small = sum-small (l .sum) (l .stands) (r .worked) adds (a .0) (a .1);
               fields = f .others;
               end = l .end;
               reads = subst (λ (p : ℕ). read (many (left - 1) (fieldAt names)) s p ≡ done (f .others) (l .end)) (sym n) (f .rest);
@@ -113,10 +108,10 @@ module _ (s : List ℕ) (names : ℕ) (rows : List ℕ) (w : List Bool) (fieldCo
               totals = λ fs d q st H. sym (onward (a .1) st H) ∙ l .totals fs d q st H;
             }
 
-        pub field-over : r′ .ok ≡ false → (fs : List Field) (e : ℕ) → Whole fs e → (st : State) → RowsHold (schemaOf s) st rows
-            → Over (stoppedBy (r .worked)) ≡ fieldsSize (resolver s st w) fs
+        pub field-over : {o : Operation} → step ≡ Step.Over o → (fs : List Field) (e : ℕ) → Whole fs e → (st : State) → RowsHold (schemaOf s) st rows
+            → Over o ≡ fieldsSize (resolver s st w) fs
         unfolding then
-        field-over o fs e q st H = sym (onward (stopped (l .sum) (l .stands) (r .worked) adds o) st H) ∙ l .totals fs e q st H
+        field-over o fs e q st H = sym (onward (stopped (l .sum) (l .stands) (r .worked) (adds .0) (adds .1) o) st H) ∙ l .totals fs e q st H
 
     module _ (h : left ≤ 0) (fs : List Field) (e : ℕ) (q : Whole fs e) where
       pub fields-end : here ≡ e

@@ -18,7 +18,6 @@ use Rattle.sizes.specs.Sizes.{then, limitedSum, Resolver, fieldsSize, mark, add
 use Rattle.sizes.specs.Names.{State}
 use Rattle.sizes.specs.Steps.{over-not}
 use Rattle.total.specs.Totals.{sizeOf, totalOf}
-use Rattle.total.specs.declared.Total.{Total}
 use Rattle.wiresize.specs.Rows.{RowsHold}
 use Rattle.wiresize.specs.Asked.{resolver}
 use Rattle.wiresize.specs.Steps.{variantsAt}
@@ -82,10 +81,10 @@ module _ (s : List ℕ) (names : ℕ) (rows : List ℕ) (w : List Bool) (count f
         pub variant-fields : read (many fields (fieldAt names)) s after ≡ done (next-variant .first) (next-variant .middle)
         variant-fields = fields-behind s names here b (next-variant .here)
 
-        pub variant-start : {total : Total} → total ≡ totalOf (Size.Fixed 0) → FieldsLeft s names rows w fields after fields after total
+        pub variant-start : {total : List ℕ} → total ≡ totalOf (Size.Fixed 0) → FieldsLeft s names rows w fields after fields after total
         variant-start i = fields-start s names rows w fields after _ _ variant-fields i
 
-        pub variant-turn : {more at : ℕ} {total : Total} {z wider : Size} → FieldsLeft s names rows w fields after more at total → more ≤ 0
+        pub variant-turn : {more at : ℕ} {total : List ℕ} {z wider : Size} → FieldsLeft s names rows w fields after more at total → more ≤ 0
             → z ≡ sizeOf total → wider ≡ widened extremes z → VariantsLeft (left - 1) at wider
         variant-turn i m c d =
             let f = next-variant in

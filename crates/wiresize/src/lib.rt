@@ -6,6 +6,7 @@ use sizes::Operation;
 use sizes::Size;
 use sizes::Worked;
 use slot::Short;
+use total::Step;
 use tree::Head;
 use tree::Sort;
 use view::Part;
@@ -457,12 +458,9 @@ fn compute_message_wire_size(
     while 0 < left {
         let field = compute_type_wire_size(image, starts, frame, rows, here, working);
         let worked = field.worked;
-        let raised = total::with_field(total, worked);
-        if !raised.ok {
-            return Worked::Over(total::stopped_by(worked));
+        if let Step::Over(by) = total::add_field(&mut total, worked) {
+            return Worked::Over(by);
         }
-        let sum = raised.total;
-        total = sum;
         here = field.next;
         left -= 1;
     }
@@ -503,14 +501,11 @@ fn compute_union_wire_size(
         while 0 < more {
             let field = compute_type_wire_size(image, starts, frame, rows, here, working);
             let worked = field.worked;
-            let raised = total::with_field(total, worked);
-            if !raised.ok {
+            if let Step::Over(operation) = total::add_field(&mut total, worked) {
                 over = true;
-                by = total::stopped_by(worked);
+                by = operation;
                 break 'variants;
             }
-            let sum = raised.total;
-            total = sum;
             here = field.next;
             more -= 1;
         }

@@ -1,22 +1,17 @@
 use borrow.Author.Needs.{needs}
-use mathlib.Core.Path.{ap, _∙_}
-use Rattle.sizes.specs.declared.Operation.{Operation}
-use Rattle.sizes.specs.declared.Worked.{Worked}
 use native.Mathlib.Omega.{arith}
 use Prim.Native.Nat.{ℕ}
 use Rattle.wiresize.proofs.compute_message_wire_size.Reads as compute-message-wire-size
 use Rattle.wiresize.proofs.+compute_message_wire_size+compute_resolved_type_wire_size+compute_type_wire_size+compute_union_wire_size+named_type_wire_size.Lts-compute_message_wire_size as compute-message-wire-size-lts
 use Rattle.total.proofs.empty_total.Reads as empty-total-reads
-use Rattle.total.proofs.with_field.Reads as with-field-reads
-use Rattle.total.proofs.stopped_by.Reads as stopped-by-reads
+use Rattle.total.proofs.add_field.Reads as add-field-reads
 use Rattle.total.proofs.total_size.Reads as total-size-reads
-use borrow.Author.Tests.{not-true, not-false}
 use Rattle.number.proofs.read_below.Reads as read-below-reads
 use Rattle.wiresize.proofs.compute_type_wire_size.Reads as compute-type-wire-size
 use Rattle.wiresize.proofs.+compute_message_wire_size+compute_resolved_type_wire_size+compute_type_wire_size+compute_union_wire_size+named_type_wire_size.Proof.Common.{compute-type-wire-size-below, compute-message-wire-size-at}
 use Rattle.number.proofs.Reading.{told}
 use Rattle.wiresize.proofs.Ended.{not-refused}
-use Rattle.wiresize.proofs.Fields.{FieldsLeft, fields-start, next-field, total-runs, field-turn, field-over, fields-sum, fields-behind, count-read}
+use Rattle.wiresize.proofs.Fields.{FieldsLeft, fields-start, next-field, field-turn, field-over, fields-sum, fields-behind, count-read}
 use Rattle.wiresize.proofs.Measure.{field-in-body}
 
 abbrev Inv-loop : compute-message-wire-size-lts.InvT-loop
@@ -27,7 +22,7 @@ abbrev μ-loop : compute-message-wire-size-lts.MeasureT-loop
 
 module _ (t : ℕ) where
   abbrev env : compute-message-wire-size-lts.Claims
-  env = (read-below-reads.Asked, read-below-reads.Learnt, empty-total-reads.Asked, empty-total-reads.Learnt, compute-type-wire-size-below t, compute-type-wire-size.Post, with-field-reads.Asked, with-field-reads.Learnt, stopped-by-reads.Asked, stopped-by-reads.Learnt, total-size-reads.Asked, total-size-reads.Learnt)
+  env = (read-below-reads.Asked, read-below-reads.Learnt, empty-total-reads.Asked, empty-total-reads.Learnt, compute-type-wire-size-below t, compute-type-wire-size.Post, add-field-reads.Asked, add-field-reads.Learnt, total-size-reads.Asked, total-size-reads.Learnt)
 
   read-below-requires : compute-message-wire-size-lts.Need-read-below-requires env (compute-message-wire-size-at t) compute-message-wire-size.Post Inv-loop μ-loop
   read-below-requires c κs = search needs
@@ -52,14 +47,22 @@ module _ (t : ℕ) where
       let f = next-field _ _ _ _ _ _ (c .before .loop .inv) (c .loop-test .taken) in
       (omega (arith, field-in-body (c .before .before .before .before .before .before .before .before .before .before .args .working .now), c .before .before .before .before .before .before .before .before .before .before .pre .0), record { ready = c .before .before .before .before .before .before .before .before .before .before .pre .1 .ready; thing = _; end = _; reads = f .here })
 
-  with-field-requires : compute-message-wire-size-lts.Need-with-field-requires env (compute-message-wire-size-at t) compute-message-wire-size.Post Inv-loop μ-loop
-  with-field-requires c κs = total-runs _ _ _ _ _ _ (c .before .before .loop .inv)
+  add-field-requires : compute-message-wire-size-lts.Need-add-field-requires env (compute-message-wire-size-at t) compute-message-wire-size.Post Inv-loop μ-loop
+  add-field-requires c κs = search needs
 
-  stopped-by-requires : compute-message-wire-size-lts.Need-stopped-by-requires env (compute-message-wire-size-at t) compute-message-wire-size.Post Inv-loop μ-loop
-  stopped-by-requires c κs = search needs
+  enum-known-by : compute-message-wire-size-lts.Need-enum-known-by env (compute-message-wire-size-at t) compute-message-wire-size.Post Inv-loop μ-loop
+  enum-known-by c = search needs
 
   returns-2 : compute-message-wire-size-lts.Need-returns-2 env (compute-message-wire-size-at t) compute-message-wire-size.Post Inv-loop μ-loop
-  returns-2 c = record { worked = λ fs end q st H. ap (λ (o : Operation). Worked.Over o) (c .stopped-by .ensures) ∙ field-over _ _ _ _ _ _ (c .before .before .before .before .before .before .loop .inv) (c .before .before .before .before .before .loop-test .taken) _ (c .before .before .before .before .compute-type-wire-size .ensures) (c .before .before .before .with-field .ensures) (not-true _ (c .before .if1 .taken)) fs end (fields-behind _ _ _ (told (c .before .before .before .before .before .before .before .before .before .before .before .read-below .ensures) (c .before .before .before .before .before .before .before .before .before .count .given .1)) q) st H }
+  returns-2 c =
+      let added = c .before .before .before in
+      let field = added .before .before in
+      let turn = field .before .before in
+      let start = turn .before .before .before in
+      record { worked = λ fs end q st H. field-over _ _ _ _ _ _ (turn .loop .inv) (field .before .loop-test .taken) _ (field .compute-type-wire-size .ensures) (added .add-field .ensures) (c .before .by .given .1) fs end (fields-behind _ _ _ (told (start .before .before .read-below .ensures) (start .count .given .1)) q) st H }
+
+  enum-told-2 : compute-message-wire-size-lts.Need-enum-told-2 env (compute-message-wire-size-at t) compute-message-wire-size.Post Inv-loop μ-loop
+  enum-told-2 c = search needs
 
   sub-left : compute-message-wire-size-lts.Need-sub-left env (compute-message-wire-size-at t) compute-message-wire-size.Post Inv-loop μ-loop
   sub-left c = omega arith
@@ -68,7 +71,10 @@ module _ (t : ℕ) where
   loop-less c = omega arith
 
   loop-again : compute-message-wire-size-lts.Need-loop-again env (compute-message-wire-size-at t) compute-message-wire-size.Post Inv-loop μ-loop
-  loop-again c = field-turn _ _ _ _ _ _ (c .before .before .before .before .before .before .loop .inv) (c .before .before .before .before .before .loop-test .taken) _ (c .before .before .before .before .compute-type-wire-size .ensures) (c .before .before .before .with-field .ensures) (not-false _ (c .before .if1 .left))
+  loop-again c =
+      let added = c .before .before in
+      let field = added .before .before in
+      field-turn _ _ _ _ _ _ (field .before .before .loop .inv) (field .before .loop-test .taken) _ (field .compute-type-wire-size .ensures) (added .add-field .ensures) (c .enum-told2 .given .1)
 
   total-size-requires : compute-message-wire-size-lts.Need-total-size-requires env (compute-message-wire-size-at t) compute-message-wire-size.Post Inv-loop μ-loop
   total-size-requires c κs = search needs
@@ -77,4 +83,4 @@ module _ (t : ℕ) where
   returns-3 c = record { worked = λ fs end q st H. fields-sum _ _ _ _ _ _ (c .before .before .loop .inv) (c .before .loop-test .left) fs end (fields-behind _ _ _ (told (c .before .before .before .before .before .before .before .read-below .ensures) (c .before .before .before .before .before .count .given .1)) q) (c .total-size .ensures) st H }
 
   pub spec : {M : Type 1} → compute-message-wire-size-lts.Closed env (compute-message-wire-size-at t) compute-message-wire-size.Post M
-  spec = compute-message-wire-size-lts.spec env (compute-message-wire-size-at t) compute-message-wire-size.Post Inv-loop μ-loop read-below-requires enum-known-count enum-told returns empty-total-requires loop-holds compute-type-wire-size-requires with-field-requires stopped-by-requires returns-2 sub-left loop-less loop-again total-size-requires returns-3
+  spec = compute-message-wire-size-lts.spec env (compute-message-wire-size-at t) compute-message-wire-size.Post Inv-loop μ-loop read-below-requires enum-known-count enum-told returns empty-total-requires loop-holds compute-type-wire-size-requires add-field-requires enum-known-by returns-2 enum-told-2 sub-left loop-less loop-again total-size-requires returns-3

@@ -7,10 +7,8 @@ use Prim.Native.Nat.{ℕ}
 use Rattle.wiresize.proofs.compute_union_wire_size.Reads as compute-union-wire-size
 use Rattle.wiresize.proofs.+compute_message_wire_size+compute_resolved_type_wire_size+compute_type_wire_size+compute_union_wire_size+named_type_wire_size.Lts-compute_union_wire_size as compute-union-wire-size-lts
 use Rattle.total.proofs.empty_total.Reads as empty-total-reads
-use Rattle.total.proofs.with_field.Reads as with-field-reads
-use Rattle.total.proofs.stopped_by.Reads as stopped-by-reads
+use Rattle.total.proofs.add_field.Reads as add-field-reads
 use Rattle.total.proofs.total_size.Reads as total-size-reads
-use borrow.Author.Tests.{not-true, not-false}
 use Rattle.measures.proofs.tag.Reads as tag-reads
 use Rattle.measures.proofs.widen.Reads as widen-reads
 use Rattle.number.proofs.read_below.Reads as read-below-reads
@@ -21,7 +19,7 @@ use mathlib.Core.Bool.{false}
 use mathlib.Core.Logic.{⊎-elim}
 use Rattle.number.proofs.Reading.{told, many-length}
 use Rattle.wiresize.proofs.Ended.{not-refused}
-use Rattle.wiresize.proofs.Fields.{FieldsLeft, next-field, total-runs, field-turn, field-over, count-read}
+use Rattle.wiresize.proofs.Fields.{FieldsLeft, next-field, field-turn, field-over, count-read}
 use Rattle.wiresize.proofs.Variants.{clash, union-none, VariantsLeft, variants-start, next-variant, variant-start, variant-turn, variant-over, variants-end, variants-behind}
 use Rattle.wiresize.proofs.Measure.{field-in-body}
 
@@ -39,7 +37,7 @@ abbrev μ-variants : compute-union-wire-size-lts.MeasureT-variants
 
 module _ (t : ℕ) where
   abbrev env : compute-union-wire-size-lts.Claims
-  env = (read-below-reads.Asked, read-below-reads.Learnt, empty-total-reads.Asked, empty-total-reads.Learnt, compute-type-wire-size-below t, compute-type-wire-size.Post, with-field-reads.Asked, with-field-reads.Learnt, stopped-by-reads.Asked, stopped-by-reads.Learnt, total-size-reads.Asked, total-size-reads.Learnt, widen-reads.Asked, widen-reads.Learnt, tag-reads.Asked, tag-reads.Learnt)
+  env = (read-below-reads.Asked, read-below-reads.Learnt, empty-total-reads.Asked, empty-total-reads.Learnt, compute-type-wire-size-below t, compute-type-wire-size.Post, add-field-reads.Asked, add-field-reads.Learnt, total-size-reads.Asked, total-size-reads.Learnt, widen-reads.Asked, widen-reads.Learnt, tag-reads.Asked, tag-reads.Learnt)
 
   read-below-requires : compute-union-wire-size-lts.Need-read-below-requires env (compute-union-wire-size-at t) compute-union-wire-size.Post Inv-loop μ-loop Inv-variants μ-variants
   read-below-requires c κs = search needs
@@ -84,11 +82,14 @@ module _ (t : ℕ) where
       let f = next-field _ _ _ _ _ _ (c .before .loop .inv .1) (c .loop-test .taken) in
       (omega (arith, field-in-body (c .before .before .before .before .before .before .before .before .before .before .before .before .before .before .before .before .before .args .working .now), c .before .before .before .before .before .before .before .before .before .before .before .before .before .before .before .before .before .pre .0), record { ready = c .before .before .before .before .before .before .before .before .before .before .before .before .before .before .before .before .before .pre .1 .ready; thing = _; end = _; reads = f .here })
 
-  with-field-requires : compute-union-wire-size-lts.Need-with-field-requires env (compute-union-wire-size-at t) compute-union-wire-size.Post Inv-loop μ-loop Inv-variants μ-variants
-  with-field-requires c κs = total-runs _ _ _ _ _ _ (c .before .before .loop .inv .1)
+  add-field-requires : compute-union-wire-size-lts.Need-add-field-requires env (compute-union-wire-size-at t) compute-union-wire-size.Post Inv-loop μ-loop Inv-variants μ-variants
+  add-field-requires c κs = search needs
 
-  stopped-by-requires : compute-union-wire-size-lts.Need-stopped-by-requires env (compute-union-wire-size-at t) compute-union-wire-size.Post Inv-loop μ-loop Inv-variants μ-variants
-  stopped-by-requires c κs = search needs
+  enum-known-operation : compute-union-wire-size-lts.Need-enum-known-operation env (compute-union-wire-size-at t) compute-union-wire-size.Post Inv-loop μ-loop Inv-variants μ-variants
+  enum-known-operation c = search needs
+
+  enum-told-3 : compute-union-wire-size-lts.Need-enum-told-3 env (compute-union-wire-size-at t) compute-union-wire-size.Post Inv-loop μ-loop Inv-variants μ-variants
+  enum-told-3 c = search needs
 
   sub-more : compute-union-wire-size-lts.Need-sub-more env (compute-union-wire-size-at t) compute-union-wire-size.Post Inv-loop μ-loop Inv-variants μ-variants
   sub-more c = omega arith
@@ -97,7 +98,11 @@ module _ (t : ℕ) where
   loop-less c = omega arith
 
   loop-again : compute-union-wire-size-lts.Need-loop-again env (compute-union-wire-size-at t) compute-union-wire-size.Post Inv-loop μ-loop Inv-variants μ-variants
-  loop-again c = (c .before .before .before .before .before .before .loop .inv .0, field-turn _ _ _ _ _ _ (c .before .before .before .before .before .before .loop .inv .1) (c .before .before .before .before .before .loop-test .taken) _ (c .before .before .before .before .compute-type-wire-size .ensures) (c .before .before .before .with-field .ensures) (not-false _ (c .before .if2 .left)))
+  loop-again c =
+      let added = c .before .before in
+      let field = added .before .before in
+      let turn = field .before .before in
+      (turn .loop .inv .0, field-turn _ _ _ _ _ _ (turn .loop .inv .1) (field .before .loop-test .taken) _ (field .compute-type-wire-size .ensures) (added .add-field .ensures) (c .enum-told3 .given .1))
 
   total-size-requires : compute-union-wire-size-lts.Need-total-size-requires env (compute-union-wire-size-at t) compute-union-wire-size.Post Inv-loop μ-loop Inv-variants μ-variants
   total-size-requires c κs = search needs
@@ -119,11 +124,11 @@ module _ (t : ℕ) where
       record {
         worked = λ vs end q st H.
             ⊎-elim
-            (λ w. absurd (clash (c .if3 .taken) (w .2) (c .before .before .variants .inv .0)))
+            (λ w. absurd (clash (c .if2 .taken) (w .2) (c .before .before .variants .inv .0)))
             (λ w.
-            ap (λ (o : Operation). Worked.Over o) (w .15 ∙ w .12 .ensures)
+            ap (λ (o : Operation). Worked.Over o) (w .16)
             ∙ variant-over _ _ _ _ _ _ (c .before .before .variants .inv .1) (w .0 .taken) (told (w .1 .ensures) (w .3 .given .1)) _
-            (field-over _ _ _ _ _ _ (w .6 .inv .1) (w .7 .taken) _ (w .8 .ensures) (w .9 .ensures) (not-true _ (w .11 .taken))) vs end (variants-behind _ _ _ (told (c .before .before .before .before .before .before .before .read-below .ensures) (c .before .before .before .before .before .count .given .1)) q) st H)
+            (field-over _ _ _ _ _ _ (w .6 .inv .1) (w .7 .taken) _ (w .8 .ensures) (w .10 .ensures) (w .12 .given .1)) vs end (variants-behind _ _ _ (told (c .before .before .before .before .before .before .before .read-below .ensures) (c .before .before .before .before .before .count .given .1)) q) st H)
             (c .before .variants-test .came);
       }
 
@@ -136,9 +141,9 @@ module _ (t : ℕ) where
         worked = λ vs end q st H.
             ⊎-elim
             (λ w. variants-end _ _ _ _ _ _ (c .before .before .before .variants .inv .1) (pos-of-ne-zero (c .before .before .before .before .if1 .left)) (w .0 .left) (c .tag .ensures) vs end (variants-behind _ _ _ (told (c .before .before .before .before .before .before .before .before .read-below .ensures) (c .before .before .before .before .before .before .count .given .1)) q) st H)
-            (λ w. absurd (clash refl (sym (w .14)) (c .before .if3 .left)))
+            (λ w. absurd (clash refl (sym (w .15)) (c .before .if2 .left)))
             (c .before .before .variants-test .came);
       }
 
   pub spec : {M : Type 1} → compute-union-wire-size-lts.Closed env (compute-union-wire-size-at t) compute-union-wire-size.Post M
-  spec = compute-union-wire-size-lts.spec env (compute-union-wire-size-at t) compute-union-wire-size.Post Inv-loop μ-loop Inv-variants μ-variants read-below-requires enum-known-count enum-told returns returns-2 variants-holds read-below-requires-2 enum-known-fields enum-told-2 returns-3 empty-total-requires loop-holds compute-type-wire-size-requires with-field-requires stopped-by-requires sub-more loop-less loop-again total-size-requires widen-requires sub-left variants-less variants-again returns-4 tag-requires returns-5
+  spec = compute-union-wire-size-lts.spec env (compute-union-wire-size-at t) compute-union-wire-size.Post Inv-loop μ-loop Inv-variants μ-variants read-below-requires enum-known-count enum-told returns returns-2 variants-holds read-below-requires-2 enum-known-fields enum-told-2 returns-3 empty-total-requires loop-holds compute-type-wire-size-requires add-field-requires enum-known-operation enum-told-3 sub-more loop-less loop-again total-size-requires widen-requires sub-left variants-less variants-again returns-4 tag-requires returns-5
