@@ -17,7 +17,7 @@ use Rattle.tree.specs.Encoding.{Encoding, default, varint, zigZag, delta}
 use Rattle.slot.specs.Field.{Field}
 use Rattle.image.specs.Schema.{Schema}
 use Rattle.sizes.specs.Sizes.{Size, Fixed, Bounded, Open, Worked, Sized, limitedSum, then, Resolver, leafSize, widened, Count, atMostOne, anyNumber, exactly, countOf, wrapSize, typeSize, encodedSize, fieldSize, added, addFields, mark, addVariants, unionSize}
-use Rattle.sizes.specs.Names.{Content, fields, variants, bits, terminal, anything, contentOf, State, Working, inserted, orElse, contentSize, nameRule, nameWithin, enough, nameSize}
+use Rattle.sizes.specs.Names.{Content, fields, variants, bits, terminal, anything, contentOf, State, Working, inserted, orElse, contentSize, nameRule, nameWithin, enough, nameSize, GoesByRule, NamesObey}
 use Rattle.sizes.specs.Check.{bodySize}
 use Rattle.sizes.specs.Lengths.{wrapParts, typeParts, encodedParts, fieldsParts, variantsParts, contentParts, terminalParts, terminalsOf, NewtypesEnd}
 use Rattle.sizes.specs.Rank.{unmarkedBelow, unmarked-all, unmarked-fresh, part-below, terminalRank, terminal-rank, terminal-rank-bound}
@@ -156,14 +156,13 @@ module _ (S : Schema) (st : State) where
         go false e less = content-agree (st i) (X f w) (Y g w) (X f (inserted i w)) (Y g (inserted i w)) (contentOf S i)
             (λ j p. less w j (left-beside w i j p)) (λ j p. less (inserted i w) j (left-inside w i j (part-below S i j p) e))
 
-    pub name-obeys : (w : Working) (i : ℕ) → nameSize S st w i ≡ nameRule S st (nameSize S st) w i
+    pub name-obeys : GoesByRule S st (nameSize S st)
     unfolding nameSize nameWithin
     name-obeys w i = let h = left-enough w i in
         agree (nameWithin S st) (nameWithin S st) within-obeys within-obeys (enough S) (suc (enough S)) w i h (omega arith)
 
     -- nothing else obeys it
-    pub name-only : (name : Working → Resolver) → ((w : Working) (i : ℕ) → name w i ≡ nameRule S st name w i) →
-        (w : Working) (i : ℕ) → name w i ≡ nameSize S st w i
+    pub name-only : (name : Working → Resolver) → GoesByRule S st name → (w : Working) (i : ℕ) → name w i ≡ nameSize S st w i
     unfolding nameSize
     name-only name obeys w i = let h = left-enough w i in
         agree (λ k. name) (nameWithin S st) (λ k. obeys) within-obeys (enough S) (enough S) w i h h
@@ -171,6 +170,9 @@ module _ (S : Schema) (st : State) where
   -- what is being worked out is a set
   pub name-same : (w w′ : Working) → ((x : ℕ) → w x ≡ w′ x) → (i : ℕ) → nameSize S st w i ≡ nameSize S st w′ i
   name-same w w′ same i = ap (λ (x : Working). nameSize S st x i) (fun-ext same)
+
+pub names-obey : (S : Schema) → NewtypesEnd S → NamesObey S
+names-obey S ends = record { obey = λ st. name-obeys S st ends; alone = λ st. name-only S st ends }
 
 -- the set as a list of marks
 pub inserted-is : (marks : List Bool) (i j : ℕ) → i < length marks →

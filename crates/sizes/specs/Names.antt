@@ -1,4 +1,5 @@
 -- What a name comes to, from the sizes that are stored and the slots that are being worked out.
+use mathlib.Core.Path.{_≡_}
 use Prim.Native.Nat.{ℕ, zero, suc, _*_}
 use mathlib.Core.Bool.{Bool, false, cond, _||_}
 use mathlib.Core.List.{List}
@@ -81,6 +82,16 @@ nameWithin S st (suc k) working i = nameRule S st (nameWithin S st k) working i
 abbrev pub enough : Schema → ℕ
 enough S = suc (length (S .slots)) * suc (suc (length (S .slots)))
 
--- it obeys the rule, and nothing else does (Fuel)
+-- it obeys the rule, and nothing else does (`NamesObey`)
 unfoldable pub nameSize : Schema → State → Working → Resolver
 nameSize S st working i = nameWithin S st (enough S) working i
+
+-- what goes by the rule for names, whatever is being worked out
+abbrev pub GoesByRule : Schema → State → (Working → Resolver) → Type 0
+GoesByRule S st names = (working : Working) (i : ℕ) → names working i ≡ nameRule S st names working i
+
+-- whatever is stored, names go by the rule, and nothing else does: how many times over is no part of what a name comes to
+pub record NamesObey (S : Schema) : Type 0 where
+  pub obey : (st : State) → GoesByRule S st (nameSize S st)
+  pub alone : (st : State) (names : Working → Resolver) → GoesByRule S st names → (working : Working) (i : ℕ) →
+      names working i ≡ nameSize S st working i

@@ -17,6 +17,7 @@ use Rattle.sizes.specs.Check as check
 use Rattle.sizes.specs.Demand.{Demand3}
 use Rattle.sizes.specs.Whole.{demand3}
 use Rattle.rows.proofs.Table.{table-length}
+use Rattle.wiresize.proofs.Ends.{names-obey}
 use Rattle.table.specs.Fitted.{fitted}
 use Rattle.turns.specs.Sizing.{verdict, rowsIn, sizingIn, sizeRowsIn, sizingOf, sizesOf, Answered, SizesSaid, Through}
 use Rattle.turns.specs.declared.Sizing.{Sizing}
@@ -72,6 +73,7 @@ module _ (s before after : List ℕ) where
         answer = d .answer f ∙ ap (sizingIn (length before) (schemaOf s)) k;
         table = d .table f ∙ ap (λ (y : Reading). fitted (length before) (sizeRowsIn (length before) (schemaOf s) y)) k;
         demand = d .demand;
+        names = names-obey s;
       }
 
   pub refused-said : (n p : ℕ) (x : Reading) → x ≡ readingOf s → x ≡ Reading.Refused n p → after ≡ fitted (length before) [] → Answered s before after (Sizing.Refused n p)
@@ -82,6 +84,7 @@ module _ (s before after : List ℕ) where
         answer = ap (sizingIn (length before) (schemaOf s)) k;
         table = t ∙ ap (λ (y : Reading). fitted (length before) (sizeRowsIn (length before) (schemaOf s) y)) k;
         demand = λ z. absurd (not-accepted z);
+        names = names-obey s;
       }
 
 -- what the code's answer says, once it was matched

@@ -11,7 +11,7 @@ use Rattle.image.specs.declared.Frame.{Frame}
 use Rattle.reader.specs.Reading.{readingOf, schemaOf}
 use Rattle.reader.specs.declared.Reading.{Reading}
 use Rattle.sizes.specs.Sizes.{refusalOf}
-use Rattle.sizes.specs.Names.{State}
+use Rattle.sizes.specs.Names.{State, NamesObey}
 use Rattle.sizes.specs.Check.{Checked, accepted, refused, turn, checkSizes, tableOf}
 use Rattle.sizes.specs.Demand.{Demand3}
 use Rattle.table.specs.Fitted.{fitted}
@@ -45,11 +45,16 @@ sizingOf places s = sizingIn places (schemaOf s) (readingOf s)
 unfoldable pub sizesOf : (places : ℕ) → List ℕ → List ℕ
 sizesOf places s = fitted places (sizeRowsIn places (schemaOf s) (readingOf s))
 
+-- of the schema of an image that is read, one that 10, 11, 12 or 14 refuses too
+abbrev pub WhenRead : List ℕ → (Schema → Type 0) → Type 0
+WhenRead s P = (f : Frame) → readingOf s ≡ Reading.Accepted f → P (schemaOf s)
+
 -- what is said of the answer and of the table that the caller holds afterwards; on acceptance demand 3 holds of it
 pub record Answered (s before after : List ℕ) (r : Sizing) : Type 0 where
   pub answer : r ≡ sizingOf (length before) s
   pub table : after ≡ sizesOf (length before) s
   pub demand : r ≡ Sizing.Accepted → Demand3 (schemaOf s) after
+  pub names : WhenRead s NamesObey
 
 -- the same of an image that was read
 pub record SizesSaid (s before after : List ℕ) (r : Sizing) : Type 0 where

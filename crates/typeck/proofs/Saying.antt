@@ -28,6 +28,7 @@ use Rattle.findings.proofs.Adding.{adds-noted}
 use Rattle.recursion.specs.Recursion as endless
 use Rattle.typeck.specs.Check.{judged, verdictIn, verdictOf, onAccepted, sizeTable, findingTable, Answered, Found}
 use Rattle.typeck.specs.declared.Verdict.{Verdict}
+use Rattle.typeck.proofs.Enough.{limits-enough}
 
 pub noted-length : (t : List ℕ) (n : ℕ) (l : List Finding) → t ≡ noted n l → length t ≡ n
 noted-length t n l e = ap length e ∙ fitted-length n (rowsOf l)
@@ -91,6 +92,8 @@ module _ (s sizes findings : List ℕ) where
             ∙ ap (λ (k : ℕ). onAccepted r k (noted k (findingsOf (schemaOf s)))) q
             ∙ ap (λ (v : Verdict). onAccepted v (length findings) (noted (length findings) (findingsOf (schemaOf s)))) a;
         demand = λ m h. subst (λ (t : List ℕ). Demand3 (schemaOf s) t) (sym (f .sizeTable ∙ ap (λ (v : Verdict). onAccepted v (length mid) mid) h)) (d .demand e);
+        names = d .names;
+        limits = limits-enough s;
       }
 
 verdict-rows : (S : Schema) (c : Checked) (n i : ℕ) → verdict c ≡ Sizing.Refused n i → rowsIn S c ≡ []
@@ -122,6 +125,8 @@ refused-said s sizes findings z n i after b d e q =
       sizeTable = d .table ∙ ap (fitted (length sizes)) (no-rows (length sizes) (schemaOf s) (readingOf s) n i k) ∙ ap (λ (v : Verdict). onAccepted v (length sizes) (sizesOf (length sizes) s)) a;
       findingTable = q ∙ ap (λ (v : Verdict). onAccepted v (length findings) (noted (length findings) (findingsOf (schemaOf s)))) a;
       demand = λ m h. absurd (not-accepted h);
+      names = d .names;
+      limits = limits-enough s;
     }
 
 -- a table that was cleared

@@ -10,13 +10,15 @@ use Rattle.image.specs.Schema.{Schema}
 use Rattle.image.specs.declared.Frame.{Frame}
 use Rattle.reader.specs.Reading.{schemaOf}
 use Rattle.reader.specs.Promise.{Promise}
+use Rattle.sizes.specs.Names.{NamesObey}
 use Rattle.sizes.specs.Demand.{Demand3}
-use Rattle.turns.specs.Sizing.{sizingOf, sizesOf}
+use Rattle.turns.specs.Sizing.{sizingOf, sizesOf, WhenRead}
 use Rattle.turns.specs.declared.Sizing.{Sizing}
 use Rattle.findings.specs.Finding.{noted}
 use Rattle.findings.specs.Findings.{findingsOf}
 use Rattle.findings.specs.Conformance.{hasImpl}
 use Rattle.order.specs.Order.{isOrdered}
+use Rattle.typeck.specs.Enough.{LimitsEnough}
 use Rattle.typeck.specs.declared.Verdict.{Verdict}
 
 -- document 01's number of an answer, 0 for acceptance; and its value: how many findings, or the refusal's place
@@ -60,6 +62,8 @@ pub record Answered (s sizes sizesAfter findings findingsAfter : List ℕ) (r : 
   pub sizeTable : sizesAfter ≡ sizeTable (length sizes) (length findings) s
   pub findingTable : findingsAfter ≡ findingTable (length sizes) (length findings) s
   pub demand : (n : ℕ) → r ≡ Verdict.Accepted n → Demand3 (schemaOf s) sizesAfter
+  pub names : WhenRead s NamesObey
+  pub limits : WhenRead s LimitsEnough
 
 -- the same of an image whose sizes stand in the table
 pub record Found (s sizes sizesAfter findings findingsAfter : List ℕ) (r : Verdict) : Type 0 where

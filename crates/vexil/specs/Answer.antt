@@ -6,10 +6,13 @@ use lib.ListN.{length}
 use Rattle.table.specs.Fitted.{fitted}
 use Rattle.reader.specs.Reading.{startsTable, schemaOf}
 use Rattle.reader.specs.declared.Reading.{Reading}
-use Rattle.turns.specs.declared.Sizing.{Sizing}
+use Rattle.sizes.specs.Names.{NamesObey}
 use Rattle.sizes.specs.Demand.{Demand3}
+use Rattle.turns.specs.Sizing.{sizingOf, sizesOf, WhenRead}
+use Rattle.turns.specs.declared.Sizing.{Sizing}
 use Rattle.typeck.specs.Check.{verdictOf, sizeTable, findingTable}
 use Rattle.typeck.specs.Check as check
+use Rattle.typeck.specs.Enough.{LimitsEnough}
 use Rattle.typeck.specs.declared.Verdict.{Verdict}
 
 abbrev pub numberOf : Reading → ℕ
@@ -33,6 +36,14 @@ sizingValue (Sizing.Refused r p) = p
 abbrev pub startsIn : (places : ℕ) → List ℕ → List ℕ
 startsIn places s = fitted places (startsTable s)
 
+-- what the sizes alone say in two numbers, and of their table; where the number is 0, demand 3 holds of it
+pub record SizesTold (s sizes sizesAfter : List ℕ) (number value : ℕ) : Type 0 where
+  pub numberIs : number ≡ sizingNumber (sizingOf (length sizes) s)
+  pub valueIs : value ≡ sizingValue (sizingOf (length sizes) s)
+  pub sizesAre : sizesAfter ≡ sizesOf (length sizes) s
+  pub demand : sizingOf (length sizes) s ≡ Sizing.Accepted → Demand3 (schemaOf s) sizesAfter
+  pub names : WhenRead s NamesObey
+
 -- what the whole check says in two numbers, and of both tables; where the number is 0, demand 3 holds of the size table
 pub record Told (s sizes sizesAfter findings findingsAfter : List ℕ) (number value : ℕ) : Type 0 where
   pub numberIs : number ≡ check.numberOf (verdictOf (length sizes) (length findings) s)
@@ -40,3 +51,5 @@ pub record Told (s sizes sizesAfter findings findingsAfter : List ℕ) (number v
   pub sizesAre : sizesAfter ≡ sizeTable (length sizes) (length findings) s
   pub findingsAre : findingsAfter ≡ findingTable (length sizes) (length findings) s
   pub demand : (n : ℕ) → verdictOf (length sizes) (length findings) s ≡ Verdict.Accepted n → Demand3 (schemaOf s) sizesAfter
+  pub names : WhenRead s NamesObey
+  pub limits : WhenRead s LimitsEnough

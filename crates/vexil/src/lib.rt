@@ -4,13 +4,9 @@ use turns::Sizing;
 use typeck::Verdict;
 ghost use mathlib.Core.Path.{_≡_};
 ghost use lib.ListN.{length, getD};
-ghost use Rattle.reader.specs.Reading.{readingOf, schemaOf};
+ghost use Rattle.reader.specs.Reading.{readingOf};
 ghost use Rattle.table.specs.Fitted.{fitted};
-ghost use Rattle.sizes.specs.Demand.{Demand3};
-ghost use Rattle.turns.specs.Sizing.{sizingOf, sizesOf};
-ghost use Rattle.turns.specs.declared.Sizing.{Sizing};
-ghost use Rattle.typeck.specs.declared.Verdict.{Verdict};
-ghost use Rattle.vexil.specs.Answer.{numberOf, valueOf, sizingNumber, sizingValue, startsIn, Told};
+ghost use Rattle.vexil.specs.Answer.{numberOf, valueOf, startsIn, SizesTold, Told};
 
 // `number` is 0 for an accepted image, and `value` then counts its slots or its findings; else they are a refusal's number
 // and place.
@@ -18,6 +14,12 @@ ghost use Rattle.vexil.specs.Answer.{numberOf, valueOf, sizingNumber, si
 pub struct Answer {
     pub number: u64,
     pub value: u64,
+}
+
+fn answered(number: u64, value: u64) -> Answer
+    ensures { λ r. ⌜ (r .number ≡ number) × (r .value ≡ value) ⌝ }
+{
+    Answer { number, value }
 }
 
 fn place_of(table: &[usize], i: usize) -> usize
@@ -47,31 +49,19 @@ pub extern "C" fn vexil_read(image: &[u8], starts: &mut [usize]) -> Answer
     fit(&table, starts);
     let answer = read.answer;
     match answer {
-        Reading::Accepted(frame) => Answer {
-            number: 0,
-            value: frame.slots,
-        },
-        Reading::Refused(number, place) => Answer {
-            number: number as u64,
-            value: place as u64,
-        },
+        Reading::Accepted(frame) => answered(0, frame.slots),
+        Reading::Refused(number, place) => answered(number as u64, place as u64),
     }
 }
 
 // Widths and sizes of an image: three numbers a slot in the table.
 #[no_mangle]
 pub extern "C" fn vexil_sizes(image: &[u8], sizes: &mut [u64]) -> Answer
-    ensures { λ r. ⌜ (r .number ≡ sizingNumber (sizingOf (length (now (sizes .entry))) (now (image .entry)))) × (r .value ≡ sizingValue (sizingOf (length (now (sizes .entry))) (now (image .entry)))) × (now (sizes .exit) ≡ sizesOf (length (now (sizes .entry))) (now (image .entry))) × (sizingOf (length (now (sizes .entry))) (now (image .entry)) ≡ Sizing.Accepted → Demand3 (schemaOf (now (image .entry))) (now (sizes .exit))) ⌝ }
+    ensures { λ r. ⌜ SizesTold (now (image .entry)) (now (sizes .entry)) (now (sizes .exit)) (r .number) (r .value) ⌝ }
 {
     match turns::compute_sizes(image, sizes) {
-        Sizing::Accepted => Answer {
-            number: 0,
-            value: 0,
-        },
-        Sizing::Refused(number, place) => Answer {
-            number: number as u64,
-            value: place,
-        },
+        Sizing::Accepted => answered(0, 0),
+        Sizing::Refused(number, place) => answered(number as u64, place),
     }
 }
 
@@ -81,13 +71,7 @@ pub extern "C" fn vexil_check(image: &[u8], sizes: &mut [u64], findings: &mut [u
     ensures { λ r. ⌜ Told (now (image .entry)) (now (sizes .entry)) (now (sizes .exit)) (now (findings .entry)) (now (findings .exit)) (r .number) (r .value) ⌝ }
 {
     match typeck::check(image, sizes, findings) {
-        Verdict::Accepted(count) => Answer {
-            number: 0,
-            value: count,
-        },
-        Verdict::Refused(number, place) => Answer {
-            number: number as u64,
-            value: place,
-        },
+        Verdict::Accepted(count) => answered(0, count),
+        Verdict::Refused(number, place) => answered(number as u64, place),
     }
 }

@@ -13,9 +13,19 @@ vexil-read-spec =
     (λ c. search needs)
     (λ c κs. search needs)
     (λ c. search needs)
+    (λ c κs. search needs)
     (λ c. search needs)
     (λ c. search needs)
+    (λ c κs. search needs)
     (λ c. search needs)
-    (λ c. let e = sym (c .before .answer .given .1) ∙ c .before .before .before .before .before .before .before .before .before .read-schema .ensures .0 in (ap numberOf e, ap valueOf e, c .before .before .before .before .before .fit .ensures ∙ ap (fitted _) (c .before .before .before .before .before .before .before .before .before .read-schema .ensures .1)))
+    (λ c.
+    let fitted-in = c .before .before .before .before .before .before in
+    let read = fitted-in .before .before .before .before .read-schema .ensures in
+    let e = sym (c .before .before .answer .given .1) ∙ read .0 in
+    (c .answered .ensures .0 ∙ ap numberOf e, c .answered .ensures .1 ∙ ap valueOf e, fitted-in .fit .ensures ∙ ap (fitted _) (read .1)))
     (λ c. search needs)
-    (λ c. let e = sym (c .before .answer2 .given .1) ∙ c .before .before .before .before .before .before .before .before .before .read-schema .ensures .0 in (ap numberOf e, ap valueOf e, c .before .before .before .before .before .fit .ensures ∙ ap (fitted _) (c .before .before .before .before .before .before .before .before .before .read-schema .ensures .1))))
+    (λ c.
+    let fitted-in = c .before .before .before .before .before .before in
+    let read = fitted-in .before .before .before .before .read-schema .ensures in
+    let e = sym (c .before .before .answer2 .given .1) ∙ read .0 in
+    (c .answered2 .ensures .0 ∙ ap numberOf e, c .answered2 .ensures .1 ∙ ap valueOf e, fitted-in .fit .ensures ∙ ap (fitted _) (read .1))))

@@ -10,9 +10,11 @@ vexil-sizes-spec =
     (tie.spec
     (λ c κs. search needs)
     (λ c. search needs)
+    (λ c κs. search needs)
     (λ c. search needs)
     (λ c. search needs)
+    (λ c κs. search needs)
     (λ c. search needs)
-    (λ c. sizes-said _ _ _ _ Sizing.Accepted (c .before .before .before .before .compute-sizes .ensures) (c .enum-told .given .1))
+    (λ c. sizes-said _ _ _ _ Sizing.Accepted _ _ (c .before .before .before .before .before .compute-sizes .ensures) (c .before .enum-told .given .1) (c .answered .ensures))
     (λ c. search needs)
-    (λ c. sizes-said _ _ _ _ (Sizing.Refused _ _) (c .before .before .before .before .before .compute-sizes .ensures) (c .before .number .given .1)))
+    (λ c. sizes-said _ _ _ _ (Sizing.Refused _ _) _ _ (c .before .before .before .before .before .before .compute-sizes .ensures) (c .before .before .number .given .1) (c .answered2 .ensures)))
