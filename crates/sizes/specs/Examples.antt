@@ -1,18 +1,16 @@
 -- The image shown on the bench sheet, and cases at the edge; its starred lines stand where findings are known too.
 use mathlib.Core.Path.{_≡_, refl}
-use Prim.Native.Nat.{ℕ, zero, suc, _-_, _^_}
+use Prim.Native.Nat.{ℕ, suc, _-_, _^_}
 use mathlib.Core.List.{List, [], _∷_, _++_, map}
-use mathlib.Core.Option.{none}
-use Rattle.tree.specs.Tree.{Tree, Leaf, leaf, wrap, fixedArray, pair, generic, primitive, subByte, semantic, named, bitsInline, qualified, optional, array, vec2, resultOf}
-use Rattle.tree.specs.Encoding.{Encoding, default, varint, zigZag, delta}
+use Rattle.tree.specs.Tree.{Tree, leaf, wrap, fixedArray, pair, primitive, semantic, named, optional, array, vec2, resultOf}
+use Rattle.tree.specs.Encoding.{Encoding, default, varint, delta}
 use Rattle.slot.specs.Field.{Field, Stored}
 use Rattle.slot.specs.Slot.{Slot, message, enum, flags, union, newtype}
 use Rattle.image.specs.Schema.{Schema, slotOf}
 use Rattle.sizes.specs.Widths.{highest, digits, bitLength, ordinalBits, enumBits, bytesTo, flagsBytes, has, enumBitsAt, flagsBytesAt}
 use Rattle.sizes.specs.Sizes.{limited, then, refusalOf, primitiveBits, semanticBits, leafSize, wrapSize, typeSize, varintEnd, zigZagEnd, encodedSize, fieldSize, addFields, addVariants, unionSize}
-use Rattle.sizes.specs.Names.{Content, fields, variants, bits, terminal, anything, contentIn, contentOf, contentSize, nameRule, nameWithin, nameSize}
+use Rattle.sizes.specs.Names.{contentIn, contentOf, contentSize, nameRule, nameWithin, nameSize}
 use Rattle.sizes.specs.Check.{brought, bodySize, ownSize, store, Checked, accepted, refused, storing, turn, onward, turns, checkSizes, row, slotRow, rowsFrom, tableOf}
-use Rattle.sizes.specs.Lengths.{Length, ofPrimitive, ofSubByte, ofSemantic, ofNamed, ofBitsInline, ofQualified, ofWrap, ofFixedArray, ofMap, ofOk, ofErr, ofGeneric, absent, present, ofElements, ofCopies, noCopy, oneCopy, plain, ofVarint, ofZigZag, ofDelta, noField, oneField, ofMessage, ofVariant, ofNoVariant, ofBits, ofTerminal, ofAnything, SlotLength}
 
 -- the answer of the check: the size table, or refusal 11 or 14 with its place
 pub data Answer : Type 0 where
@@ -107,7 +105,7 @@ answered ls = map (λ l. answerOf (l .of) (checkSizes (l .of))) ls
 -- ## Lines of sizes
 
 -- A { B }, B { u8 }, where B brings Fixed 3
-abbrev wrong : List ℕ → Schema
+abbrev pub wrong : List ℕ → Schema
 wrong ds = declaring ds (of (slot 1 ∷ []) ∷ a-message (Stored.fixed 3) (each (u8 ∷ [])) ∷ [])
 
 -- A { A }
@@ -189,90 +187,3 @@ firstSteps =
 pub first-steps-hold : answered firstSteps ≡ said firstSteps
 unfolding checkSizes turns turn onward ownSize bodySize storing store brought nameSize nameWithin nameRule contentSize contentOf contentIn slotOf typeSize leafSize wrapSize then limited primitiveBits semanticBits varintEnd zigZagEnd encodedSize fieldSize addFields addVariants unionSize tableOf rowsFrom slotRow
 first-steps-hold = refl
-
--- ## The provisos are needed
-
--- with a stored size that does not enclose: A's entry in `wrong` is Fixed 3, and A has a value of length 8
-pub wrong-length : SlotLength (wrong (0 ∷ 1 ∷ [])) 0 8
-unfolding contentOf contentIn slotOf primitiveBits
-wrong-length =
-    let b : SlotLength (wrong (0 ∷ 1 ∷ [])) 1 8 = ofNamed (ofMessage (oneField {n = 8} (plain ofPrimitive) noField)) in
-    ofNamed (ofMessage (oneField {n = 8} (plain b) noField))
-
--- where something leads back to itself: A { A } is from 0, and has no value at all
-abbrev IsSelfLeaf : Leaf → Type 0
-IsSelfLeaf (primitive p) = ⊥
-IsSelfLeaf (subByte g b) = ⊥
-IsSelfLeaf (semantic m) = ⊥
-IsSelfLeaf (named zero) = Unit {0}
-IsSelfLeaf (named (suc i)) = ⊥
-IsSelfLeaf (bitsInline ns) = ⊥
-IsSelfLeaf (qualified n) = ⊥
-
-abbrev IsSelf : Tree → Type 0
-IsSelf (leaf l) = IsSelfLeaf l
-IsSelf (wrap w t) = ⊥
-IsSelf (fixedArray t k) = ⊥
-IsSelf (pair p t u) = ⊥
-IsSelf (generic n t) = ⊥
-
-abbrev IsSelfIn : Encoding → Tree → Type 0
-IsSelfIn default t = IsSelf t
-IsSelfIn varint t = ⊥
-IsSelfIn zigZag t = ⊥
-IsSelfIn (delta e) t = ⊥
-
-abbrev HasSelf : List Field → Type 0
-HasSelf [] = ⊥
-HasSelf (f ∷ fs) = IsSelfIn (f .encoding) (f .type)
-
-abbrev HoldsSelf : Content → Type 0
-HoldsSelf (fields fs) = HasSelf fs
-HoldsSelf (variants vs) = ⊥
-HoldsSelf (bits b) = ⊥
-HoldsSelf (terminal t) = ⊥
-HoldsSelf anything = ⊥
-
-holds-self : (i : ℕ) → IsSelfLeaf (named i) → HoldsSelf (contentOf self i)
-unfolding contentOf contentIn slotOf
-holds-self zero a = tt
-holds-self (suc i) a = absurd a
-
-no-length : {t : Tree} {n : ℕ} → Length self t n → IsSelf t → ⊥
-no-length d = elim d
-    as (λ t n x. IsSelf t → ⊥) (λ c t n x. Unit {0}) (λ t k n x. Unit {0})
-    (λ e t n x. IsSelfIn e t → ⊥) (λ fs n x. HasSelf fs → ⊥) (λ c n x. HoldsSelf c → ⊥) [
-      | ofPrimitive ↦ λ a. a
-      | ofSubByte ↦ λ a. a
-      | ofSemantic h ↦ λ a. a
-      | ofNamed {i = i} (l → h) ↦ λ a. h (holds-self i a)
-      | ofBitsInline ↦ λ a. a
-      | ofQualified ↦ λ a. a
-      | ofWrap l ↦ λ a. a
-      | ofFixedArray l ↦ λ a. a
-      | ofMap l ↦ λ a. a
-      | ofOk l ↦ λ a. a
-      | ofErr l ↦ λ a. a
-      | ofGeneric ↦ λ a. a
-      | absent ↦ tt
-      | present l ↦ tt
-      | ofElements l ↦ tt
-      | ofCopies l ↦ tt
-      | noCopy ↦ tt
-      | oneCopy l c ↦ tt
-      | plain (l → h) ↦ h
-      | ofVarint l ↦ λ a. a
-      | ofZigZag l ↦ λ a. a
-      | ofDelta l ↦ λ a. a
-      | noField ↦ λ a. a
-      | oneField (l → h) c ↦ h
-      | ofMessage (l → h) ↦ h
-      | ofVariant m l ↦ λ a. a
-      | ofNoVariant ↦ λ a. a
-      | ofBits ↦ λ a. a
-      | ofTerminal l ↦ λ a. a
-      | ofAnything ↦ λ a. a
-    ]
-
-pub self-none : {n : ℕ} → SlotLength self 0 n → ⊥
-self-none l = no-length l tt

@@ -1,0 +1,149 @@
+-- The provisos of demand 3 are needed: with one of them dropped, a clause is false of the table of some schema.
+use mathlib.Core.Path.{_≡_, refl}
+use Prim.Native.Nat.{ℕ, zero, suc, _+_, _≤_, _<_}
+use native.Mathlib.Omega.{arith}
+use mathlib.Core.List.{List, [], _∷_, List·Memᴰ, List·Memᴰ·head, List·Memᴰ·not-nil, List·Memᴰ·eq-of-singleton}
+use mathlib.Core.Option.{none, some, Option·none-ne-some}
+use Rattle.tree.specs.Tree.{Tree, wrap, array}
+use Rattle.tree.specs.Encoding.{default}
+use Rattle.slot.specs.Field.{Field, Stored}
+use Rattle.image.specs.Schema.{Schema, slotOf}
+use Rattle.sizes.specs.Sizes.{Size, Fixed, Bounded, Open, largest, limited, then, primitiveBits, leafSize, wrapSize, typeSize, encodedSize, fieldSize, addFields}
+use Rattle.sizes.specs.Names.{contentIn, contentOf, State, contentSize, nameRule, nameWithin, nameSize}
+use Rattle.sizes.specs.Check.{brought, bodySize, ownSize, store, accepted, storing, turn, onward, turns, checkSizes, slotRow, rowsFrom, tableOf, sizeAt}
+use Rattle.sizes.specs.Lengths.{Length, ofPrimitive, ofNamed, ofWrap, ofElements, EncodedLength, plain, FieldsLength, noField, oneField, ofMessage, SlotLength, typeParts, encodedParts, fieldsParts, contentParts, partsOf, Reaches, atOnce, byWayOf, NothingLeadsBack, Encloses}
+use Rattle.sizes.specs.Demand.{isMessage, Declared, Attained, BringsNone}
+use Rattle.sizes.specs.Laws.{Plus}
+use Rattle.sizes.specs.Rules.{primitive-is, named-is, plain-is, message-is}
+use Rattle.sizes.specs.Enclosure.{own-enclosed}
+use Rattle.sizes.specs.Examples.{all, declaring, a-field, each, a-message, of, u8, slot, wrong}
+
+-- ## The clauses of `Demand3`, each with one proviso dropped
+
+-- `enclosed`, whatever sizes the image brings
+abbrev pub EnclosedUntrusted : Schema → List ℕ → Type 0
+EnclosedUntrusted S table = (i : ℕ) → Declared S i → (s : Size) → sizeAt table i ≡ some s → Encloses (SlotLength S i) s
+
+-- `attained`, whatever sizes the image brings
+abbrev pub AttainedStored : Schema → List ℕ → Type 0
+AttainedStored S table = (i : ℕ) → Declared S i → NothingLeadsBack S i → (s : Size) → sizeAt table i ≡ some s →
+    Attained (SlotLength S i) s
+
+-- `attained`, whatever leads back to itself
+abbrev pub AttainedLooped : Schema → List ℕ → Type 0
+AttainedLooped S table = BringsNone S → (i : ℕ) → Declared S i → (s : Size) → sizeAt table i ≡ some s →
+    Attained (SlotLength S i) s
+
+-- the check accepts a schema, and the claim is false of its table
+pub record Refuted (Claim : Schema → List ℕ → Type 0) : Type 0 where
+  pub schema : Schema
+  pub final : State
+  pub accepts : checkSizes schema ≡ accepted final
+  pub fails : ¬ Claim schema (tableOf schema final)
+
+-- ## Enclosure needs trusted sizes
+
+-- A { B }, B { u8 }, where B brings Fixed 3: A is Fixed 3, and has a value of length 8
+abbrev untrusted : Schema
+untrusted = wrong (0 ∷ 1 ∷ [])
+
+untrusted-length : SlotLength untrusted 0 8
+unfolding contentOf contentIn slotOf primitiveBits
+untrusted-length =
+    let b : SlotLength untrusted 1 8 = ofNamed (ofMessage (oneField {n = 8} (plain ofPrimitive) noField)) in
+    ofNamed (ofMessage (oneField {n = 8} (plain b) noField))
+
+pub enclosed-untrusted : Refuted EnclosedUntrusted
+unfolding checkSizes turns turn onward ownSize bodySize storing store brought nameSize nameWithin nameRule contentSize contentOf contentIn slotOf typeSize leafSize then limited primitiveBits encodedSize fieldSize addFields tableOf rowsFrom slotRow sizeAt
+enclosed-untrusted = record {
+  schema = untrusted;
+  final = store 1 (Fixed 8) (store 0 (Fixed 3) (brought untrusted));
+  accepts = refl;
+  fails = λ claim.
+      let d : Declared untrusted 0 = record { listed = List·Memᴰ·head refl; sizable = isMessage } in
+      let above : 8 ≤ 3 = claim 0 d (Fixed 3) refl .within 8 untrusted-length .notAbove in
+      omega arith;
+}
+
+-- ## Attainment needs an image that brings no size
+
+-- A { B }, B { u8 }, where B is not declared and brings `from 0`: A is from 0, and each of its values has length 8
+abbrev undeclared : Schema
+undeclared = declaring (0 ∷ []) (of (slot 1 ∷ []) ∷ a-message (Stored.from 0) (each (u8 ∷ [])) ∷ [])
+
+part-is : (i j : ℕ) → List·Memᴰ j (partsOf undeclared i) → i < j
+unfolding contentOf contentIn slotOf contentParts fieldsParts encodedParts typeParts
+part-is zero j m = let e = List·Memᴰ·eq-of-singleton m in omega arith
+part-is (suc zero) j m = absurd (List·Memᴰ·not-nil m)
+part-is (suc (suc i)) j m = absurd (List·Memᴰ·not-nil m)
+
+onward-only : {i j : ℕ} → Reaches (partsOf undeclared) i j → i < j
+onward-only (atOnce m) = part-is _ _ m
+onward-only (byWayOf m r) = let a = part-is _ _ m in let b = onward-only r in omega arith
+
+pub attained-stored : Refuted AttainedStored
+unfolding checkSizes turns turn onward ownSize bodySize storing store brought nameSize nameWithin nameRule contentSize contentOf contentIn slotOf typeSize leafSize then limited primitiveBits encodedSize fieldSize addFields tableOf rowsFrom slotRow sizeAt
+attained-stored = record {
+  schema = undeclared;
+  final = store 0 (Open 0) (brought undeclared);
+  accepts = refl;
+  fails = λ claim.
+      let d : Declared undeclared 0 = record { listed = List·Memᴰ·head refl; sizable = isMessage } in
+      let free : NothingLeadsBack undeclared 0 = λ k m r. let h = onward-only r in omega arith in
+      let l = claim 0 d free (Open 0) refl .low in
+      let e = own-enclosed undeclared (λ i. none) (λ i s q. absurd (Option·none-ne-some s q)) 0 (Fixed 8) refl in
+      let below : 8 ≤ 0 = e .within 0 l .notBelow in
+      omega arith;
+}
+
+-- ## Attainment needs that nothing leads back
+
+-- A { u8, A } is from 8, and has no value at all: one of them would hold a shorter one
+abbrev looped : Schema
+looped = all (of (u8 ∷ slot 0 ∷ []) ∷ [])
+
+first-field : (f : Field) (fs : List Field) (n : ℕ) → FieldsLength looped (f ∷ fs) n →
+    Plus (EncodedLength looped (f .encoding) (f .type)) (FieldsLength looped fs) n
+first-field f fs n (oneField {n = a} {m = b} l r) = (a, b, l, r, refl)
+
+shorter : (n : ℕ) → SlotLength looped 0 n → (m : ℕ) × SlotLength looped 0 m × (m < n)
+unfolding contentOf contentIn slotOf primitiveBits
+shorter n l =
+    let (a, b, byte, more, e) = first-field (a-field default u8) (each (slot 0 ∷ [])) n (message-is looped _ n .1 (named-is looped 0 n .1 l)) in
+    let (m, z, own, rest, e′) = first-field (a-field default (slot 0)) [] b more in
+    let e″ = primitive-is looped 1 a .1 (plain-is looped u8 a .1 byte) in
+    (m, plain-is looped (slot 0) m .1 own, omega arith)
+
+none-below : (b n : ℕ) → n < b → SlotLength looped 0 n → ⊥
+none-below zero n h l = omega arith
+none-below (suc b) n h l = let (m, own, less) = shorter n l in none-below b m (omega arith) own
+
+brings-none : BringsNone looped
+unfolding brought slotOf
+brings-none zero = refl
+brings-none (suc i) = refl
+
+pub attained-looped : Refuted AttainedLooped
+unfolding checkSizes turns turn onward ownSize bodySize storing store nameSize nameWithin nameRule contentSize contentOf contentIn slotOf typeSize leafSize then limited primitiveBits encodedSize fieldSize addFields tableOf rowsFrom slotRow sizeAt
+attained-looped = record {
+  schema = looped;
+  final = store 0 (Open 8) (brought looped);
+  accepts = refl;
+  fails = λ claim.
+      let d : Declared looped 0 = record { listed = List·Memᴰ·head refl; sizable = isMessage } in
+      none-below 9 8 (omega arith) (claim brings-none 0 d (Open 8) refl .low);
+}
+
+-- ## An array has no largest
+
+-- no size with a largest encloses an array's lengths
+pub array-open : (S : Schema) (t : Tree) (s : Size) → Encloses (Length S (wrap array t)) s → largest s ≡ none
+array-open S t s e = go s e
+  where
+    longer : (h : ℕ) → Length S (wrap array t) (suc (8 + h))
+    longer h = ofWrap (ofElements {n = suc (8 + h)} (omega arith))
+
+    go : (s : Size) → Encloses (Length S (wrap array t)) s → largest s ≡ none
+    go (Fixed b) e = let h : suc (8 + b) ≤ b = e .within (suc (8 + b)) (longer b) .notAbove in absurd (omega arith)
+    go (Bounded l b) e = let h : suc (8 + b) ≤ b = e .within (suc (8 + b)) (longer b) .notAbove in absurd (omega arith)
+    go (Open l) e = refl
