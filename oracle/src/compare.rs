@@ -38,7 +38,7 @@ pub struct Outcome {
     pub asked: u64,
     /// The number of the first image that differs; the workers take turns.
     pub first: Option<u64>,
-    /// The difference there, made as small as the library lets it.
+    /// The difference there, as it was seen.
     pub difference: Option<Difference>,
 }
 
@@ -51,11 +51,19 @@ impl Outcome {
     pub fn complete(&self) -> bool {
         self.tally.images() == self.asked
     }
+
+    /// The same with the difference made as small as the library lets it; it
+    /// stays as it was seen if the library errs no more.
+    pub fn shrunk(mut self, ours: Library) -> Self {
+        let difference = self.difference.take();
+        self.difference = difference.map(|difference| on_long_stack(|| shrunk(difference, ours)));
+        self
+    }
 }
 
 /// One outcome of the workers' own. Of several differences that of the lowest
 /// image counts, whichever thread came first.
-fn joined(outcomes: Vec<Outcome>, asked: u64, ours: Library) -> Outcome {
+fn joined(outcomes: Vec<Outcome>, asked: u64) -> Outcome {
     let mut all = Outcome {
         asked,
         ..Outcome::default()
@@ -73,9 +81,6 @@ fn joined(outcomes: Vec<Outcome>, asked: u64, ours: Library) -> Outcome {
             (all.first, all.difference) = (outcome.first, outcome.difference);
         }
     }
-    all.difference = all
-        .difference
-        .map(|difference| on_long_stack(|| shrunk(difference, ours)));
     all
 }
 
@@ -111,7 +116,7 @@ pub fn compare(selection: Selection, ours: Library) -> Outcome {
         each_image(selection, worker, |family, image| pair.run(image, family));
         pair.outcome
     });
-    joined(outcomes, selection.count, ours)
+    joined(outcomes, selection.count)
 }
 
 /// Compares on all images of up to `bytes` bytes; the family does not count.
@@ -137,7 +142,7 @@ pub fn exhaustive(bytes: usize, ours: Library) -> Outcome {
         pair.outcome
     });
     let asked = (0..=bytes).map(|length| 256u64.pow(length as u32)).sum();
-    joined(outcomes, asked, ours)
+    joined(outcomes, asked)
 }
 
 /// The next image of this length, the last byte counting up first.
@@ -179,7 +184,7 @@ impl<'a> Pair<'a> {
         let whole = worked_out(image, self.ours);
         let column = column(&whole, self.ours);
         self.outcome.tally.count(family, column);
-        self.outcome.tally.look_into(&whole);
+        self.outcome.tally.look_into(family, &whole);
         let differs = first_difference(image, &whole, self.ours, &mut self.outcome.calls);
         if differs.is_some() {
             self.lowest.fetch_min(self.number, Ordering::Relaxed);

@@ -18,7 +18,7 @@ use oracle::program;
 use oracle::record::{record, record_lines, write_images};
 use oracle::stack::{self, Subject};
 use oracle::survey::survey;
-use oracle::tally::{COLUMNS, TOO_LONG};
+use oracle::tally::{Tally, COLUMNS, TOO_LONG};
 use oracle::workers::on_long_stack;
 
 const USAGE: &str = "\
@@ -123,15 +123,26 @@ fn image_from_input() -> io::Result<Vec<u8>> {
 fn run_compare(options: &[String]) -> Result<bool, Failure> {
     let (selection, ours) = (selection(options)?, ours()?);
     let start = Instant::now();
-    let outcome = compare(selection, ours);
+    let outcome = compare(selection, ours).shrunk(ours);
     print!("{}", outcome.tally);
-    Ok(report("compare", &outcome, start))
+    let enough = enough(selection, &outcome.tally);
+    Ok(report("compare", &outcome, start) && enough)
+}
+
+/// Whether a run over all families met enough of each kind; tells if not.
+fn enough(selection: Selection, tally: &Tally) -> bool {
+    if selection.families != Families::All {
+        return true;
+    }
+    let few = tally.below_floor();
+    few.iter().for_each(|few| println!("TOO FEW {few}"));
+    few.is_empty()
 }
 
 fn run_exhaustive(options: &[String]) -> Result<bool, Failure> {
     let (bytes, ours) = (number(options, "--bytes")?, ours()?);
     let start = Instant::now();
-    let outcome = exhaustive(bytes as usize, ours);
+    let outcome = exhaustive(bytes as usize, ours).shrunk(ours);
     println!("images {}", by_number(&outcome.tally.totals()));
     Ok(report("exhaustive", &outcome, start))
 }
@@ -185,13 +196,14 @@ fn run_survey(options: &[String]) -> Result<bool, Failure> {
     let start = Instant::now();
     let survey = survey(selection);
     print!("{}", survey.tally);
-    println!("findings of class 1 to 4: {:?}", &survey.classes[1..]);
     if let Some(image) = &survey.failed {
         println!("the check failed on {}", hex(image));
     }
+    let enough = enough(selection, &survey.tally);
+    let images = survey.tally.images();
     let seconds = start.elapsed().as_secs_f64();
-    println!("survey: {} images, {seconds:.1} s", survey.tally.images());
-    Ok(survey.failed.is_none())
+    println!("survey: {images} images, {seconds:.1} s");
+    Ok(survey.failed.is_none() && images == selection.count && enough)
 }
 
 fn output_file(options: &[String]) -> Result<BufWriter<File>, Failure> {

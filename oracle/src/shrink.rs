@@ -1,7 +1,8 @@
 //! Makes an image smaller while it still shows what it shows.
 
-/// Longest image on which two changes are tried together.
-const SMALL: usize = 64;
+/// Most pairs of a byte that is not 0 and another one, which are changed
+/// together.
+const PAIRS: usize = 64 * 64;
 
 /// Bytes that all tries together may have, so that a long image whose counts
 /// hold it together does not take hours.
@@ -19,7 +20,7 @@ pub fn shrink(image: &[u8], shows: &mut dyn FnMut(&[u8]) -> bool) {
         let before = shrinker.best.clone();
         shrinker.take_out();
         shrinker.lower();
-        if shrinker.best.len() <= SMALL {
+        if shrinker.pairs() <= PAIRS {
             shrinker.lower_and_take_out();
         }
         if shrinker.best == before {
@@ -47,6 +48,11 @@ impl Shrinker<'_> {
             self.best = tried;
         }
         kept
+    }
+
+    fn pairs(&self) -> usize {
+        let counts = self.best.iter().filter(|&&byte| byte != 0);
+        counts.count() * self.best.len()
     }
 
     /// The best without the `run` bytes from `at` on.

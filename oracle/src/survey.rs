@@ -11,11 +11,11 @@ use crate::random::Random;
 use crate::tally::{Tally, TOO_LONG};
 use crate::workers::in_parallel;
 
-/// Counts of answers and of findings by class, and an image whose check failed.
+/// Counts of answers, findings and trait fields, and an image whose check
+/// failed.
 #[derive(Debug, Default)]
 pub struct Survey {
     pub tally: Tally,
-    pub classes: [u64; 5],
     pub failed: Option<Vec<u8>>,
 }
 
@@ -25,9 +25,6 @@ pub fn survey(selection: Selection) -> Survey {
     for part in parts {
         all.tally.add(&part.tally);
         all.failed = all.failed.or(part.failed);
-        for (count, more) in all.classes.iter_mut().zip(part.classes) {
-            *count += more;
-        }
     }
     all
 }
@@ -41,14 +38,10 @@ fn part(selection: Selection, worker: u64) -> Survey {
             survey.failed = Some(image.to_vec());
             return ControlFlow::Break(());
         };
-        survey.tally.look_into(&whole);
+        survey.tally.look_into(family, &whole);
         let column = match &whole.answer(places) {
             Ok(Answer::Refused { number, .. }) => *number as usize,
-            Ok(Answer::Accepted { findings, .. }) => {
-                let classes = findings.iter().step_by(6);
-                classes.for_each(|&class| survey.classes[class as usize] += 1);
-                0
-            }
+            Ok(Answer::Accepted { .. }) => 0,
             Err(_) => TOO_LONG,
         };
         survey.tally.count(family, column);

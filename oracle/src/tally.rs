@@ -2,7 +2,7 @@
 
 use std::fmt;
 
-use crate::answer::{Operation, Part, PassedLimit, Unions, Whole};
+use crate::answer::{Classes, FieldCounts, Operation, Part, PassedLimit, Unions, Whole};
 use crate::generate::FAMILIES;
 
 /// The answers there are: accepted, and the refusals.
@@ -18,9 +18,22 @@ pub type FirstSteps = [[u64; 2]; Part::ALL.len()];
 /// Calls one in another from which on an image counts as deep.
 const DEEP: u64 = 1_000;
 
+/// Images of a run for each of which one has to be answered this number.
+fn images_each(number: usize) -> u64 {
+    match number {
+        // Images above 65,536 bytes are rare.
+        1 => 200_000,
+        _ => 20_000,
+    }
+}
+
 #[derive(Debug, Clone)]
 pub struct Tally {
     rows: Vec<[u64; COLUMNS]>,
+    /// By family, images that have a finding of a class.
+    classes: Vec<Classes>,
+    findings: Classes,
+    fields: FieldCounts,
     /// Images that go deep, and how deep the deepest goes.
     deep: u64,
     deepest: u64,
@@ -32,6 +45,9 @@ impl Default for Tally {
     fn default() -> Self {
         Self {
             rows: vec![[0; COLUMNS]; FAMILIES.len()],
+            classes: vec![Classes::default(); FAMILIES.len()],
+            findings: Classes::default(),
+            fields: FieldCounts::default(),
             deep: 0,
             deepest: 0,
             unions: [0; 3],
@@ -45,15 +61,20 @@ impl Tally {
         self.rows[family][column] += 1;
     }
 
-    /// Counts how deep the calls for one image go, the turns of unions, and
-    /// the step that passes the limit.
-    pub fn look_into(&mut self, whole: &Whole) {
+    /// Counts how deep the calls for one image go, the turns of unions, the
+    /// step that passes the limit, findings and trait fields.
+    pub fn look_into(&mut self, family: usize, whole: &Whole) {
         self.deep += u64::from(whole.deepest >= DEEP);
         self.deepest = self.deepest.max(whole.deepest);
         add_counts(&mut self.unions, &whole.unions);
         if let Some(passed) = whole.passed_limit() {
             self.count_first_step(passed);
         }
+        let classes = whole.classes();
+        add_counts(&mut self.findings, &classes);
+        let there = classes.map(|count| u64::from(count > 0));
+        add_counts(&mut self.classes[family], &there);
+        self.fields.add(&whole.fields);
     }
 
     fn count_first_step(&mut self, passed: PassedLimit) {
@@ -70,6 +91,11 @@ impl Tally {
         for (row, more) in self.rows.iter_mut().zip(&other.rows) {
             add_counts(row, more);
         }
+        for (classes, more) in self.classes.iter_mut().zip(&other.classes) {
+            add_counts(classes, more);
+        }
+        add_counts(&mut self.findings, &other.findings);
+        self.fields.add(&other.fields);
         self.deep += other.deep;
         self.deepest = self.deepest.max(other.deepest);
         add_counts(&mut self.unions, &other.unions);
@@ -81,6 +107,37 @@ impl Tally {
     /// Images with a step past the limit, by the first such step.
     pub fn first_steps(&self) -> FirstSteps {
         self.first_steps
+    }
+
+    /// What a run over all families has too few of, lest it show nothing:
+    /// trait fields, images by class of finding, images by refusal.
+    pub fn below_floor(&self) -> Vec<String> {
+        let images = self.images();
+        let floor = FieldCounts::floor(images);
+        let mut held = Vec::new();
+        for (what, count) in self.fields.each() {
+            held.push((format!("trait fields, {what}"), count, floor));
+        }
+        for (class, count) in (1..).zip(self.class_totals()) {
+            held.push((format!("images with class {class}"), count, floor));
+        }
+        // Only calls with shorter tables than the program's answer 10.
+        let totals = self.totals();
+        for number in NUMBERS.into_iter().filter(|&number| number != 10) {
+            let what = format!("images answered {number}");
+            held.push((what, totals[number], images / images_each(number)));
+        }
+        let few = held.into_iter().filter(|(_, count, floor)| count < floor);
+        few.map(|(what, count, floor)| format!("{what}: {count}, not {floor}"))
+            .collect()
+    }
+
+    fn class_totals(&self) -> Classes {
+        let mut totals = Classes::default();
+        for classes in &self.classes {
+            add_counts(&mut totals, classes);
+        }
+        totals
     }
 
     /// Turns of unions in the images that have a size table.
@@ -110,28 +167,9 @@ fn add_counts<const N: usize>(counts: &mut [u64; N], more: &[u64; N]) {
 
 impl fmt::Display for Tally {
     fn fmt(&self, out: &mut fmt::Formatter<'_>) -> fmt::Result {
-        let totals = self.totals();
-        let used: Vec<usize> = (0..COLUMNS).filter(|&column| totals[column] > 0).collect();
-        write!(out, "{:15}{:>9}", "family", "images")?;
-        for &column in &used {
-            match column {
-                0 => write!(out, "{:>9}", "accepted")?,
-                TOO_LONG => write!(out, "{:>9}", "too long")?,
-                number => write!(out, "{number:>9}")?,
-            }
-        }
-        writeln!(out)?;
-        let named = FAMILIES.iter().map(|family| family.name).zip(&self.rows);
-        for (name, row) in named.chain([("all", &totals)]) {
-            let images: u64 = row.iter().sum();
-            if images > 0 {
-                write!(out, "{name:15}{images:>9}")?;
-                for &column in &used {
-                    write!(out, "{:>9}", row[column])?;
-                }
-                writeln!(out)?;
-            }
-        }
+        self.write_numbers(out)?;
+        self.write_classes(out)?;
+        self.fields.fmt(out)?;
         let Self { deep, deepest, .. } = self;
         writeln!(
             out,
@@ -154,4 +192,57 @@ impl fmt::Display for Tally {
             told.join(", ")
         )
     }
+}
+
+impl Tally {
+    /// Images by family and answer.
+    fn write_numbers(&self, out: &mut fmt::Formatter<'_>) -> fmt::Result {
+        let totals = self.totals();
+        let used: Vec<usize> = (0..COLUMNS).filter(|&column| totals[column] > 0).collect();
+        write!(out, "{:15}{:>9}", "family", "images")?;
+        for &column in &used {
+            match column {
+                0 => write!(out, "{:>9}", "accepted")?,
+                TOO_LONG => write!(out, "{:>9}", "too long")?,
+                number => write!(out, "{number:>9}")?,
+            }
+        }
+        writeln!(out)?;
+        let named = FAMILIES.iter().map(|family| family.name).zip(&self.rows);
+        for (name, row) in named.chain([("all", &totals)]) {
+            let images: u64 = row.iter().sum();
+            if images > 0 {
+                write!(out, "{name:15}{images:>9}")?;
+                for &column in &used {
+                    write!(out, "{:>9}", row[column])?;
+                }
+                writeln!(out)?;
+            }
+        }
+        Ok(())
+    }
+
+    /// Images by family and the classes of their findings.
+    fn write_classes(&self, out: &mut fmt::Formatter<'_>) -> fmt::Result {
+        write!(out, "{:15}", "images with")?;
+        for class in 1..=4 {
+            write!(out, "{:>9}", format!("class {class}"))?;
+        }
+        writeln!(out)?;
+        for (family, classes) in FAMILIES.iter().zip(&self.classes) {
+            if *classes != [0; 4] {
+                write_row(out, family.name, classes)?;
+            }
+        }
+        write_row(out, "all", &self.class_totals())?;
+        write_row(out, "findings", &self.findings)
+    }
+}
+
+fn write_row(out: &mut fmt::Formatter<'_>, name: &str, counts: &[u64]) -> fmt::Result {
+    write!(out, "{name:15}")?;
+    for count in counts {
+        write!(out, "{count:>9}")?;
+    }
+    writeln!(out)
 }

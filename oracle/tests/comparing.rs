@@ -46,6 +46,7 @@ fn reference_equals_itself() {
     assert_eq!(outcome.difference, None);
     assert_eq!(outcome.tally.images(), selection.count);
     assert!(outcome.passed());
+    assert!(outcome.tally.below_floor().is_empty());
     let unions = outcome.tally.unions();
     assert!(unions.iter().all(|&turns| turns > 50), "{unions:?}");
     let first_steps = outcome.tally.first_steps();
@@ -56,6 +57,14 @@ fn reference_equals_itself() {
     for number in NUMBERS.into_iter().filter(|&number| number != 1) {
         assert!(outcome.calls[number] > 0, "no call answers {number}");
     }
+}
+
+/// One family alone has too few of nearly everything.
+#[test]
+fn floor_is_told() {
+    let few = run_family("traits", REFERENCE).tally.below_floor();
+    let told = "trait fields, found, Mat4, whole: 0, not 4";
+    assert!(few.iter().any(|few| few == told), "{few:?}");
 }
 
 #[test]
@@ -73,7 +82,7 @@ fn difference_is_found_and_shrunk() {
         },
         ..SIZES
     };
-    let outcome = compare(SELECTION, library);
+    let outcome = compare(SELECTION, library).shrunk(library);
     let difference = outcome.difference.expect("a difference");
     assert!(difference.image.len() <= 24, "{:02x?}", difference.image);
     assert!(matches!(difference.call, Call::Sizes { .. }));
@@ -96,7 +105,7 @@ fn untouched_start_is_seen() {
         },
         ..SIZES
     };
-    let difference = compare(SELECTION, library).difference;
+    let difference = compare(SELECTION, library).shrunk(library).difference;
     assert!(difference.expect("a difference").image.is_empty());
 }
 
@@ -113,7 +122,7 @@ fn untouched_size_is_seen_even_on_refusal() {
         },
         ..SIZES
     };
-    let difference = run_family("valid", library).difference;
+    let difference = run_family("valid", library).shrunk(library).difference;
     let difference = difference.expect("a difference");
     assert_eq!(difference.expected.verdict, refused(10));
     // One slot, one place less than it takes.
@@ -289,7 +298,7 @@ fn one_wrong_call_is_told() {
         },
         ..SIZES
     };
-    let outcome = compare(SELECTION, library);
+    let outcome = compare(SELECTION, library).shrunk(library);
     assert!(!outcome.passed());
     assert!(outcome.first.is_some());
     let difference = outcome.difference.expect("a difference");
@@ -312,7 +321,7 @@ fn one_wrong_call_is_told_of_all_short_images() {
         },
         ..SIZES
     };
-    let outcome = exhaustive(2, library);
+    let outcome = exhaustive(2, library).shrunk(library);
     assert!(!outcome.passed());
     let difference = outcome.difference.expect("a difference");
     assert_eq!(difference.ours.verdict.number, 99);

@@ -40,19 +40,6 @@ fn another_output_is_seen() {
     assert_eq!(wrong.expected, "vexil-typeck 1\nrefused 2 0\n");
 }
 
-/// A program that errs on one run and on no other is told.
-#[test]
-fn one_wrong_output_is_seen() {
-    let runs = AtomicU64::new(0);
-    let program = || match runs.fetch_add(1, Ordering::Relaxed) {
-        150 => oracle("families"),
-        _ => oracle("answer"),
-    };
-    let outcome = run(SELECTION, &program).expect("it runs");
-    assert!(outcome.wrong.is_some());
-    assert!(!outcome.passed());
-}
-
 #[test]
 fn findings_are_as_many_as_said() {
     for kind in 0..3 {
@@ -86,4 +73,17 @@ fn records_hold_images_and_lines() {
     }
     assert!(images > 150, "{images}");
     assert!(file.len() < 600_000, "{}", file.len());
+}
+
+/// A program that errs on one run and on no other is told.
+#[test]
+fn one_wrong_output_is_seen() {
+    let runs = AtomicU64::new(0);
+    let program = || match runs.fetch_add(1, Ordering::Relaxed) {
+        150 => oracle("families"),
+        _ => oracle("answer"),
+    };
+    let outcome = run(SELECTION, &program).expect("it runs");
+    assert!(outcome.wrong.is_some());
+    assert!(!outcome.passed());
 }

@@ -3,8 +3,11 @@
 //! Refusals 1 to 9 come from the importer, 11 and 14 from sizes worked out here
 //! in 128 bits, sizes and findings from the upstream check.
 
+mod fields;
 mod findings;
+mod kinds;
 mod limit;
+mod parts;
 mod sizes;
 mod steps;
 mod whole;
@@ -13,9 +16,12 @@ mod widths;
 use std::fmt::Write;
 
 use crate::import::Refusal;
+pub use fields::{each_wanted, Wanted};
+pub use kinds::FieldCounts;
 pub use limit::{Operation, Part, PassedLimit};
+pub use parts::{expression_kind, type_kind, type_parts};
 pub use steps::TooLong;
-pub use whole::{Unions, Whole};
+pub use whole::{Classes, Unions, Whole};
 
 /// Lent places: u64 for sizes, u32 for findings.
 #[derive(Debug, Clone, Copy, PartialEq, Eq)]

@@ -1,6 +1,7 @@
 //! How long the upstream check takes, in type nodes visited or copied. Some
 //! accepted schemas take exponential time; these are told here beforehand.
 
+use super::parts::each_node;
 use crate::ast::TypeExpr;
 use crate::ir::{CompiledSchema, FieldDef, ImplDef, ResolvedType, TraitDef, TypeDef, TypeId};
 use crate::smol_str::SmolStr;
@@ -214,25 +215,4 @@ fn nodes(ty: &ResolvedType) -> u64 {
         }
     });
     count
-}
-
-fn each_node(ty: &ResolvedType, visit: &mut dyn FnMut(&ResolvedType)) {
-    visit(ty);
-    match ty {
-        ResolvedType::Optional(part)
-        | ResolvedType::Array(part)
-        | ResolvedType::FixedArray(part, _)
-        | ResolvedType::Set(part)
-        | ResolvedType::Vec2(part)
-        | ResolvedType::Vec3(part)
-        | ResolvedType::Vec4(part)
-        | ResolvedType::Quat(part)
-        | ResolvedType::Mat3(part)
-        | ResolvedType::Mat4(part) => each_node(part, visit),
-        ResolvedType::Map(left, right) | ResolvedType::Result(left, right) => {
-            each_node(left, visit);
-            each_node(right, visit);
-        }
-        _ => {}
-    }
 }

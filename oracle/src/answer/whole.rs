@@ -1,7 +1,9 @@
 //! All that is worked out for an image before places are lent for it, so that
 //! one working-out answers for tables of any length.
 
-use super::findings::{findings, mark_spans};
+use super::fields::each_wanted;
+use super::findings::{findings, mark_spans, Finding};
+use super::kinds::FieldCounts;
 use super::limit::PassedLimit;
 use super::sizes::{size_table, Stop};
 use super::steps::{Steps, TooLong, STEP_LIMIT};
@@ -31,6 +33,9 @@ impl From<Stop> for Failure {
     }
 }
 
+/// Counts by the classes 1 to 4 of findings.
+pub type Classes = [u64; 4];
+
 /// Counts of unions without variants, with one, with more.
 pub type Unions = [u64; 3];
 
@@ -43,6 +48,8 @@ pub struct Whole {
     pub deepest: u64,
     /// Turns of unions, by how many variants they have, if there is a table.
     pub unions: Unions,
+    /// Trait fields that were searched for, if the findings are known.
+    pub fields: FieldCounts,
     sizes: Result<Vec<u64>, Failure>,
     findings: Result<Vec<u32>, TooLong>,
 }
@@ -63,6 +70,7 @@ impl Whole {
             starts: Vec::new(),
             deepest: 0,
             unions: [0; 3],
+            fields: FieldCounts::default(),
             sizes: Err(Failure::TooLong),
             findings: Err(TooLong),
         };
@@ -90,7 +98,9 @@ impl Whole {
         if with_findings && steps.charge_findings(&schema).is_ok() {
             let spans = mark_spans(&mut schema);
             let diagnostics = check(&mut schema);
-            self.findings = Ok(findings(&schema, &spans, &diagnostics).concat());
+            let findings = findings(&schema, &spans, &diagnostics);
+            self.look_at_fields(&schema, &findings);
+            self.findings = Ok(findings.concat());
         } else {
             compute_wire_sizes(&mut schema);
         }
@@ -98,6 +108,21 @@ impl Whole {
         assert_eq!(sizes, expected, "sizes worked out here and upstream");
         self.sizes = Ok(sizes);
         self.unions = union_turns(&schema);
+    }
+
+    /// Counts trait fields, and holds those that are not found here against
+    /// the upstream findings.
+    fn look_at_fields(&mut self, schema: &CompiledSchema, findings: &[Finding]) {
+        let mut lacking = Vec::new();
+        each_wanted(schema, &mut |wanted| {
+            self.fields.count(wanted);
+            if !wanted.found() {
+                lacking.push([wanted.slot, wanted.index]);
+            }
+        });
+        let upstream = findings.iter().filter(|finding| finding[0] == 4);
+        let upstream = upstream.map(|finding| [finding[1], finding[4]]);
+        assert!(upstream.eq(lacking), "trait fields here and upstream");
     }
 
     /// The refusal of reading, if it is one.
@@ -114,6 +139,16 @@ impl Whole {
             Err(Failure::Limit { passed, .. }) => Some(passed),
             _ => None,
         }
+    }
+
+    /// Findings by their class, none if they are not known.
+    pub fn classes(&self) -> Classes {
+        let mut classes = Classes::default();
+        let findings = self.findings.as_deref().unwrap_or_default();
+        for finding in findings.chunks(6) {
+            classes[finding[0] as usize - 1] += 1;
+        }
+        classes
     }
 
     /// Numbers that the findings take, if they are known.

@@ -9,6 +9,8 @@ mod first;
 pub mod full;
 mod limits;
 pub mod loops;
+mod matches;
+mod near;
 mod nesting;
 pub mod schemas;
 mod traits;
@@ -102,6 +104,9 @@ pub static FAMILIES: &[Family] = &[
     }),
     family("many-findings", 20, |random, emit| {
         one(findings::many(random), emit)
+    }),
+    family("matches", 2_000, |random, emit| {
+        one(matches::matches(random), emit)
     }),
 ];
 
