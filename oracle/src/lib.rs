@@ -34,6 +34,7 @@ pub mod export;
 pub mod format;
 pub mod generate;
 pub mod import;
+pub mod lengths;
 pub mod library;
 pub mod model;
 #[cfg(feature = "ours")]

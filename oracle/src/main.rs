@@ -13,6 +13,7 @@ use oracle::example::bond_report;
 use oracle::export::export;
 use oracle::format::SLOT_LIMIT;
 use oracle::generate::{family_named, Families, FAMILIES};
+use oracle::lengths;
 use oracle::library::{Call, Library, Verdict};
 use oracle::program;
 use oracle::record::{record, record_lines, write_images};
@@ -31,6 +32,7 @@ oracle record --count N --seed S --out FILE      images and how they are read
 oracle record-lines --count N --seed S --out FILE  images and the lines of vexcheck
 oracle images --count N --seed S --out FOLDER    images that are not long, a file each
 oracle program --binary FILE --count N --seed S  a vexcheck and the Rust on generated images
+oracle lengths --count N --seed S                enumerated lengths beside the size tables
 oracle bench                                     times of reading, sizes, check; ratios
 oracle stack                                     least stack on which deep images are answered
 oracle answer < image                            the lines of vexcheck
@@ -69,6 +71,7 @@ fn run(arguments: &[String]) -> Result<bool, Failure> {
         "record-lines" => run_record_lines(options)?,
         "images" => run_images(options)?,
         "program" => return run_program(options),
+        "lengths" => return run_lengths(options),
         "bench" => on_long_stack(|| bench(ours().ok())),
         "stack" => return run_stack(options),
         "answer" => run_answer()?,
@@ -255,6 +258,29 @@ fn run_program(options: &[String]) -> Result<bool, Failure> {
         outcome.images, outcome.too_long
     );
     Ok(outcome.passed())
+}
+
+fn run_lengths(options: &[String]) -> Result<bool, Failure> {
+    let (count, seed) = (number(options, "--count")?, number(options, "--seed")?);
+    let start = Instant::now();
+    let summary = lengths::run(count, seed, &lengths::subjects(ours().ok()));
+    println!("per clause: held (held though a proviso is not met, past the horizon)");
+    print!("{summary}");
+    if let Some(broken) = &summary.broken {
+        println!("smallest image found: {}", hex(&broken.image));
+        println!("{}: {}", broken.subject, broken.told);
+    }
+    let low = summary.too_low(count);
+    low.iter().for_each(|count| println!("too low: {count}"));
+    let verdict = match (&summary.broken, low.is_empty()) {
+        (Some(_), _) => "BROKEN",
+        (None, false) => "TOO LITTLE TRIED",
+        (None, true) => "demand 3 holds",
+    };
+    let seconds = start.elapsed().as_secs_f64();
+    let schemas = summary.small.met.schemas + summary.families.met.schemas;
+    println!("lengths: {schemas} schemas, {verdict}, {seconds:.1} s");
+    Ok(summary.broken.is_none() && low.is_empty())
 }
 
 fn run_answer() -> Result<(), Failure> {

@@ -11,7 +11,7 @@ mod parts;
 mod sizes;
 mod steps;
 mod whole;
-mod widths;
+pub(crate) mod widths;
 
 use std::fmt::Write;
 

@@ -14,7 +14,7 @@ mod near;
 mod nesting;
 pub mod schemas;
 mod traits;
-mod trees;
+pub mod trees;
 mod turns;
 
 use crate::model::Schema;

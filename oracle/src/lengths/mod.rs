@@ -1,0 +1,465 @@
+//! Demand 3 tried by enumeration: the lengths of small schemas, by the length
+//! rules of document 01 and never from sizes, beside the rows of size tables.
+
+pub mod clauses;
+mod parts;
+pub mod rules;
+pub mod set;
+pub mod small;
+mod turns;
+
+use std::fmt;
+use std::ops::ControlFlow;
+
+use crate::answer::{Answer, Whole, PROGRAM_PLACES};
+use crate::compare::{each_image, Selection};
+use crate::generate::Families;
+use crate::import::{import, Imported};
+use crate::ir::{CompiledSchema, Encoding, FieldDef, ResolvedType, TypeDef};
+use crate::library::Library;
+use crate::model::Schema;
+use crate::random::Random;
+use crate::shrink::shrink;
+use crate::workers::{in_parallel, THREADS};
+use clauses::{Clause, Facts, Proviso, Tally};
+
+/// Images of the families are taken up to these.
+const MOST_BYTES: usize = 120;
+const MOST_SLOTS: usize = 8;
+
+/// Type kinds and encodings, numbered as in an image.
+const KINDS: usize = 17;
+const ENCODINGS: usize = 4;
+
+/// Whose size table it is, and how to get that of an accepted image.
+#[derive(Clone, Copy)]
+pub struct Subject {
+    pub name: &'static str,
+    pub table: Table,
+}
+
+/// The size table of an accepted image of so many slots; none if the subject
+/// refuses it.
+#[derive(Clone, Copy)]
+pub enum Table {
+    Rust,
+    Sizes(Library),
+    Check(Library),
+}
+
+impl Table {
+    fn of(self, image: &[u8], slots: usize) -> Option<Vec<u64>> {
+        let mut sizes = vec![0; 3 * slots];
+        let verdict = match self {
+            Table::Rust => {
+                return match Whole::sizes_of(image).sizes_answer(3 * slots as u64) {
+                    Ok(Answer::Accepted { sizes, .. }) => Some(sizes),
+                    _ => None,
+                }
+            }
+            Table::Sizes(library) => (library.sizes)(image, &mut sizes),
+            Table::Check(library) => {
+                let mut findings = vec![0; PROGRAM_PLACES.findings as usize];
+                let check = library.check.expect("a subject only if there is one");
+                check(image, &mut sizes, &mut findings)
+            }
+        };
+        (verdict.number == 0).then_some(sizes)
+    }
+}
+
+/// The Rust, and both entries of the library that fill a size table.
+pub fn subjects(ours: Option<Library>) -> Vec<Subject> {
+    let mut subjects = vec![Subject {
+        name: "Rust",
+        table: Table::Rust,
+    }];
+    if let Some(ours) = ours {
+        let sizes = Table::Sizes(ours);
+        subjects.push(Subject {
+            name: "vexil_sizes",
+            table: sizes,
+        });
+        let check = ours.check.map(|_| Table::Check(ours));
+        subjects.extend(check.map(|table| Subject {
+            name: "vexil_check",
+            table,
+        }));
+    }
+    subjects
+}
+
+/// What the schemas were like.
+#[derive(Debug, Clone, Default)]
+pub struct Met {
+    pub schemas: u64,
+    /// Declared messages and unions.
+    pub slots: u64,
+    pub brings: u64,
+    /// Brings sizes, all ordered and enclosing.
+    pub trusted: u64,
+    pub back: u64,
+    pub repeated: u64,
+    /// A message's last turn differs from an earlier one in what is Fixed.
+    pub moved: u64,
+    pub dangling: u64,
+    /// Declared messages and unions without a length.
+    pub without: u64,
+    pub kinds: [u64; KINDS],
+    pub encodings: [u64; ENCODINGS],
+}
+
+/// An image that breaks demand 3, as small as could be found.
+#[derive(Debug, Clone)]
+pub struct Broken {
+    pub subject: &'static str,
+    pub image: Vec<u8>,
+    pub told: String,
+}
+
+/// Schemas of one source, and what the clauses came to.
+#[derive(Debug, Clone, Default)]
+pub struct Part {
+    pub met: Met,
+    /// Per subject.
+    pub tallies: Vec<(&'static str, Tally)>,
+}
+
+#[derive(Debug, Clone, Default)]
+pub struct Summary {
+    /// Generated for this.
+    pub small: Part,
+    /// Of the families, as far as they are small and accepted.
+    pub families: Part,
+    pub broken: Option<Broken>,
+}
+
+/// Judges the tables of generated small schemas, as many as `count`, and of the
+/// small images among as many of the families.
+pub fn run(count: u64, seed: u64, subjects: &[Subject]) -> Summary {
+    let parts = in_parallel(|worker| {
+        let mut summary = Summary::of(subjects);
+        for number in (worker..count).step_by(THREADS as usize) {
+            let image = schema(seed, number).bytes();
+            let flow = run_one(&image, subjects, &mut summary.small);
+            if let ControlFlow::Break(broken) = flow {
+                summary.broken = Some(broken);
+                return summary;
+            }
+        }
+        let selection = Selection {
+            count,
+            seed,
+            families: Families::All,
+        };
+        each_image(selection, worker, |_, image| {
+            if image.len() > MOST_BYTES {
+                return ControlFlow::Continue(());
+            }
+            let flow = run_one(image, subjects, &mut summary.families);
+            flow.map_break(|broken| summary.broken = Some(broken))
+        });
+        summary
+    });
+    let mut all = Summary::of(subjects);
+    for part in parts {
+        all.small.add(&part.small);
+        all.families.add(&part.families);
+        all.broken = all.broken.or(part.broken);
+    }
+    all
+}
+
+/// The schema of this number.
+pub fn schema(seed: u64, number: u64) -> Schema {
+    small::small(&mut Random::new(seed, number))
+}
+
+fn run_one(image: &[u8], subjects: &[Subject], part: &mut Part) -> ControlFlow<Broken> {
+    let Some(imported) = accepted(image) else {
+        return ControlFlow::Continue(());
+    };
+    let facts = Facts::of(&imported.schema);
+    part.met.count(&imported.schema, &facts);
+    for (subject, (_, tally)) in subjects.iter().zip(&mut part.tallies) {
+        let slots = imported.starts.len();
+        if let Some(told) = told(image, &facts, subject, slots, tally) {
+            return ControlFlow::Break(smallest(image, subject).unwrap_or(Broken {
+                subject: subject.name,
+                image: image.to_vec(),
+                told,
+            }));
+        }
+    }
+    ControlFlow::Continue(())
+}
+
+impl Part {
+    fn of(subjects: &[Subject]) -> Self {
+        let tallies = subjects.iter();
+        Self {
+            met: Met::default(),
+            tallies: tallies.map(|one| (one.name, Tally::default())).collect(),
+        }
+    }
+
+    fn add(&mut self, other: &Self) {
+        self.met.add(&other.met);
+        for ((_, tally), (_, more)) in self.tallies.iter_mut().zip(&other.tallies) {
+            tally.add(more);
+        }
+    }
+}
+
+impl Summary {
+    fn of(subjects: &[Subject]) -> Self {
+        Self {
+            small: Part::of(subjects),
+            families: Part::of(subjects),
+            broken: None,
+        }
+    }
+
+    /// Counts that are too low for the run to mean much, with what they ought
+    /// to be at least.
+    pub fn too_low(&self, count: u64) -> Vec<String> {
+        let mut low = Vec::new();
+        let mut floor = |what: String, met: u64, one_in: u64| {
+            let least = (count / one_in).max(1);
+            if met < least {
+                low.push(format!("{what}: {met}, at least {least}"));
+            }
+        };
+        let others = self.families.met.schemas;
+        floor("images of families".into(), others, 10);
+        for (what, met, one_in) in self.small.met.floors() {
+            floor(what, met, one_in);
+        }
+        for (subject, tally) in &self.small.tallies {
+            for (at, (clause, one_in)) in Clause::ALL.into_iter().zip(HELD).enumerate() {
+                floor(format!("{subject}, {clause:?}"), tally.held[at], one_in);
+                let known = tally.held[at] / MOST_PAST >= tally.unknown[at];
+                let what = format!("{subject}, {clause:?}, within the horizon");
+                floor(what, if known { count } else { 0 }, 1);
+            }
+            for (proviso, one_in) in Proviso::ALL.into_iter().zip(NEEDED) {
+                let needed = tally.needed[proviso as usize];
+                floor(format!("{subject}, {proviso:?} needed"), needed, one_in);
+            }
+        }
+        low
+    }
+}
+
+/// A clause has to hold, its provisos met, once in so many schemas; in the
+/// order of `Clause::ALL`.
+const HELD: [u64; Clause::ALL.len()] = [2, 2, 3, 3, 1];
+/// A proviso has to be needed once in so many, in the order of `Proviso::ALL`.
+const NEEDED: [u64; Proviso::ALL.len()] = [200, 800, 50, 25];
+/// At most one in so many may hang on lengths past the horizon.
+const MOST_PAST: u64 = 200;
+
+impl Met {
+    fn count(&mut self, schema: &CompiledSchema, facts: &Facts) {
+        self.schemas += 1;
+        self.slots += facts.slots.len() as u64;
+        let trusted = facts.ordered && facts.enclosing == clauses::Truth::Yes;
+        self.brings += u64::from(!facts.none_brought);
+        self.trusted += u64::from(!facts.none_brought && trusted);
+        let any = |fact: &dyn Fn(usize) -> bool| facts.slots.iter().any(|&slot| fact(slot));
+        self.back += u64::from(any(&|slot| facts.back[slot]));
+        let turns = |slot| {
+            let ids = schema.declarations.iter();
+            ids.filter(|id| id.index() as usize == slot).count()
+        };
+        self.repeated += u64::from(any(&|slot| turns(slot) > 1));
+        self.moved += u64::from(facts.last_turns.moved);
+        let ids = &schema.declarations;
+        let dangling = ids.iter().any(|&id| schema.registry.get(id).is_none());
+        self.dangling += u64::from(dangling);
+        let slots = facts.slots.iter();
+        self.without += slots
+            .filter(|&&slot| facts.lengths[slot].is_empty())
+            .count() as u64;
+        self.count_types(schema, facts);
+    }
+
+    fn count_types(&mut self, schema: &CompiledSchema, facts: &Facts) {
+        for &slot in &facts.slots {
+            match schema.registry.get(crate::ir::TypeId(slot as u32)) {
+                Some(TypeDef::Message(message)) => self.count_fields(&message.fields),
+                Some(TypeDef::Union(un)) => {
+                    let variants = un.variants.iter();
+                    variants.for_each(|variant| self.count_fields(&variant.fields));
+                }
+                _ => {}
+            }
+        }
+    }
+
+    fn count_fields(&mut self, fields: &[FieldDef]) {
+        for field in fields {
+            let encoding = match field.encoding.encoding {
+                Encoding::Default => 0,
+                Encoding::Varint => 1,
+                Encoding::ZigZag => 2,
+                Encoding::Delta(_) => 3,
+            };
+            self.encodings[encoding] += 1;
+            if encoding == 0 {
+                self.count_type(&field.resolved_type);
+            }
+        }
+    }
+
+    fn count_type(&mut self, ty: &ResolvedType) {
+        let (kind, parts): (usize, &[&ResolvedType]) = match ty {
+            ResolvedType::Primitive(_) => (0, &[]),
+            ResolvedType::SubByte(_) => (1, &[]),
+            ResolvedType::Semantic(_) => (2, &[]),
+            ResolvedType::Named(_) => (3, &[]),
+            ResolvedType::Optional(part) => (4, &[part]),
+            ResolvedType::Array(_) => (5, &[]),
+            ResolvedType::FixedArray(part, _) => (6, &[part]),
+            ResolvedType::Set(_) => (7, &[]),
+            ResolvedType::Map(_, _) => (8, &[]),
+            ResolvedType::Result(ok, err) => (9, &[ok, err]),
+            ResolvedType::Vec2(part) => (10, &[part]),
+            ResolvedType::Vec3(part) => (11, &[part]),
+            ResolvedType::Vec4(part) => (12, &[part]),
+            ResolvedType::Quat(part) => (13, &[part]),
+            ResolvedType::Mat3(part) => (14, &[part]),
+            ResolvedType::Mat4(part) => (15, &[part]),
+            ResolvedType::BitsInline(_) => (16, &[]),
+        };
+        self.kinds[kind] += 1;
+        parts.iter().for_each(|part| self.count_type(part));
+    }
+
+    /// What is counted, and once in how many schemas it has to be met.
+    fn floors(&self) -> Vec<(String, u64, u64)> {
+        let mut floors = vec![
+            ("schemas".into(), self.schemas, 1),
+            ("bring sizes".into(), self.brings, 5),
+            ("bring trusted sizes".into(), self.trusted, 10),
+            ("lead back".into(), self.back, 10),
+            ("declare again".into(), self.repeated, 10),
+            ("Fixed by the last turn".into(), self.moved, 200),
+            ("declare nothing".into(), self.dangling, 10),
+            ("without lengths".into(), self.without, 20),
+        ];
+        for (kind, &count) in self.kinds.iter().enumerate() {
+            floors.push((format!("type kind {kind}"), count, 50));
+        }
+        for (encoding, &count) in self.encodings.iter().enumerate() {
+            floors.push((format!("encoding {encoding}"), count, 20));
+        }
+        floors
+    }
+
+    fn add(&mut self, other: &Self) {
+        let pairs = [
+            (&mut self.schemas, other.schemas),
+            (&mut self.slots, other.slots),
+            (&mut self.brings, other.brings),
+            (&mut self.trusted, other.trusted),
+            (&mut self.back, other.back),
+            (&mut self.repeated, other.repeated),
+            (&mut self.moved, other.moved),
+            (&mut self.dangling, other.dangling),
+            (&mut self.without, other.without),
+        ];
+        pairs.into_iter().for_each(|(count, more)| *count += more);
+        let kinds = self.kinds.iter_mut().zip(other.kinds);
+        let encodings = self.encodings.iter_mut().zip(other.encodings);
+        kinds.chain(encodings).for_each(|(one, more)| *one += more);
+    }
+}
+
+/// The image as imported, if the Rust accepts it and does not take too long.
+fn accepted(image: &[u8]) -> Option<Imported> {
+    let imported = import(image).ok()?;
+    if imported.starts.len() > MOST_SLOTS {
+        return None;
+    }
+    Table::Rust.of(image, imported.starts.len())?;
+    Some(imported)
+}
+
+/// What is wrong with a subject's table, if anything is.
+fn told(
+    image: &[u8],
+    facts: &Facts,
+    subject: &Subject,
+    slots: usize,
+    tally: &mut Tally,
+) -> Option<String> {
+    match subject.table.of(image, slots) {
+        None => Some("an accepted image is refused".into()),
+        Some(table) => facts.judge(&table, tally).map(|broken| broken.to_string()),
+    }
+}
+
+fn smallest(image: &[u8], subject: &Subject) -> Option<Broken> {
+    let broken = |image: &[u8]| {
+        let imported = accepted(image)?;
+        let facts = Facts::of(&imported.schema);
+        let slots = imported.starts.len();
+        told(image, &facts, subject, slots, &mut Tally::default())
+    };
+    let image = shrink(image, &|tried| broken(tried).is_some());
+    let told = broken(&image)?;
+    Some(Broken {
+        subject: subject.name,
+        image,
+        told,
+    })
+}
+
+impl fmt::Display for Summary {
+    fn fmt(&self, out: &mut fmt::Formatter<'_>) -> fmt::Result {
+        write!(out, "small schemas: {}", self.small)?;
+        write!(out, "small images of the families: {}", self.families)
+    }
+}
+
+impl fmt::Display for Part {
+    fn fmt(&self, out: &mut fmt::Formatter<'_>) -> fmt::Result {
+        writeln!(out, "{}", self.met)?;
+        for (subject, tally) in &self.tallies {
+            write!(out, "{subject:12}")?;
+            for (at, clause) in Clause::ALL.into_iter().enumerate() {
+                let (held, idle, past) = (tally.held[at], tally.idle[at], tally.unknown[at]);
+                write!(out, " {clause:?} {held} ({idle}, {past})")?;
+            }
+            write!(out, "; false without")?;
+            for proviso in Proviso::ALL {
+                write!(out, " {proviso:?} {}", tally.needed[proviso as usize])?;
+            }
+            writeln!(out)?;
+        }
+        Ok(())
+    }
+}
+
+impl fmt::Display for Met {
+    fn fmt(&self, out: &mut fmt::Formatter<'_>) -> fmt::Result {
+        let Self { schemas, slots, .. } = self;
+        write!(
+            out,
+            "{schemas}, with {slots} declared messages and unions, {} of them without lengths; \
+             bring sizes {} (trusted {}), lead back {}, declare again {} (Fixed by the last \
+             turn {}), declare nothing {}; \
+             type kinds {:?}, encodings {:?}",
+            self.without,
+            self.brings,
+            self.trusted,
+            self.back,
+            self.repeated,
+            self.moved,
+            self.dangling,
+            self.kinds,
+            self.encodings
+        )
+    }
+}

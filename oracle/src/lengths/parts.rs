@@ -1,0 +1,71 @@
+//! What a type is made of, and whether that leads back, as document 01 says
+//! it: all parts but elements of Array, Map and Set; a Varint or ZigZag field
+//! has none.
+
+use super::rules::innermost;
+use crate::ir::{CompiledSchema, Encoding, FieldDef, ResolvedType, TypeDef, TypeId};
+
+/// Per slot, whether something it is made of leads back to itself.
+pub fn leading_back(schema: &CompiledSchema) -> Vec<bool> {
+    let slots = schema.registry.len();
+    let reached: Vec<Vec<bool>> = (0..slots).map(|slot| reached(schema, slot)).collect();
+    let made_of = |slot: usize, part: usize| part == slot || reached[slot][part];
+    let back = |slot| (0..slots).any(|part| made_of(slot, part) && reached[part][part]);
+    (0..slots).map(back).collect()
+}
+
+/// The slots reached from a slot's parts, by one step or more.
+fn reached(schema: &CompiledSchema, slot: usize) -> Vec<bool> {
+    let mut reached = vec![false; schema.registry.len()];
+    let mut open = parts_of(schema, slot);
+    while let Some(part) = open.pop() {
+        if let Some(mark) = reached.get_mut(part) {
+            if !std::mem::replace(mark, true) {
+                open.extend(parts_of(schema, part));
+            }
+        }
+    }
+    reached
+}
+
+/// The slots that a slot's own parts name.
+pub fn parts_of(schema: &CompiledSchema, slot: usize) -> Vec<usize> {
+    let mut parts = Vec::new();
+    match schema.registry.get(TypeId(slot as u32)) {
+        Some(TypeDef::Message(message)) => add_fields(&message.fields, &mut parts),
+        Some(TypeDef::Union(un)) => {
+            let variants = un.variants.iter();
+            variants.for_each(|variant| add_fields(&variant.fields, &mut parts));
+        }
+        Some(TypeDef::Newtype(newtype)) => add_type(&newtype.terminal_type, &mut parts),
+        _ => {}
+    }
+    parts
+}
+
+fn add_fields(fields: &[FieldDef], parts: &mut Vec<usize>) {
+    for field in fields {
+        if !matches!(innermost(field), Encoding::Varint | Encoding::ZigZag) {
+            add_type(&field.resolved_type, parts);
+        }
+    }
+}
+
+fn add_type(ty: &ResolvedType, parts: &mut Vec<usize>) {
+    match ty {
+        ResolvedType::Named(id) => parts.push(id.index() as usize),
+        ResolvedType::Optional(part)
+        | ResolvedType::FixedArray(part, _)
+        | ResolvedType::Vec2(part)
+        | ResolvedType::Vec3(part)
+        | ResolvedType::Vec4(part)
+        | ResolvedType::Quat(part)
+        | ResolvedType::Mat3(part)
+        | ResolvedType::Mat4(part) => add_type(part, parts),
+        ResolvedType::Result(ok, err) => {
+            add_type(ok, parts);
+            add_type(err, parts);
+        }
+        _ => {}
+    }
+}

@@ -1,0 +1,412 @@
+//! The enumerator of lengths: each length rule of document 01 by hand, and
+//! wrong sizes that it has to tell.
+
+mod wrong_sizes;
+
+use std::sync::OnceLock;
+
+use oracle::answer::{Answer, Whole};
+use oracle::import::import;
+use oracle::lengths::clauses::{Clause, Facts, Proviso, Tally, Truth, Violation};
+use oracle::lengths::rules::lengths_of_slots;
+use oracle::lengths::set::{Lengths, HORIZON};
+use oracle::lengths::{run, schema, subjects};
+use oracle::model::{
+    declared, field, fixed, message, pair, union, wrap, Encoding, Field, Schema, Slot, Stored,
+    Tree, ARRAY, BOOL, MAP, MAT4, OPTIONAL, RESULT, SET, U32, U8, VEC2, VEC3, VOID,
+};
+use wrong_sizes::{table, Wrong, NOT_ASKED};
+
+const SEED: u64 = 1;
+
+/// A type that names its own slot, the message 0, has this part.
+const ITSELF: Tree = Tree::Named(0);
+
+fn all(schema: &Schema) -> Vec<Lengths> {
+    let imported = import(&schema.bytes()).expect("an accepted image");
+    lengths_of_slots(&imported.schema)
+}
+
+fn first(slots: Vec<Slot>) -> Lengths {
+    all(&declared(vec![0; 3], slots))[0]
+}
+
+/// The lengths of a message that has this type as its one field.
+fn of(tree: Tree) -> Lengths {
+    first(vec![message(0, vec![field(0, tree)])])
+}
+
+/// The same, with other slots behind it.
+fn beside(tree: Tree, others: &[Slot]) -> Lengths {
+    let mut slots = vec![message(0, vec![field(0, tree)])];
+    slots.extend_from_slice(others);
+    first(slots)
+}
+
+fn encoded(deltas: u32, last: u64, tree: Tree) -> Lengths {
+    let encoding = Encoding { deltas, last };
+    let field = Field {
+        encoding,
+        ..field(0, tree)
+    };
+    first(vec![message(0, vec![field])])
+}
+
+fn these<const N: usize>(lengths: [u64; N]) -> Lengths {
+    lengths.into_iter().collect()
+}
+
+fn any() -> Lengths {
+    Lengths::any_from(0)
+}
+
+#[test]
+fn leaves_have_their_fixed_length() {
+    let widths = [1, 8, 16, 32, 64, 8, 16, 32, 64, 32, 64, 32, 64, 0];
+    for (number, bits) in widths.into_iter().enumerate() {
+        assert_eq!(of(Tree::Primitive(number as u64)), these([bits]));
+    }
+    assert_eq!(of(Tree::SubByte(1, 5)), these([5]));
+    assert_eq!(of(Tree::SubByte(0, 0)), these([0]));
+    assert_eq!(of(Tree::Bits(vec![])), these([0]));
+    assert_eq!(of(Tree::Bits(vec![0, 1, 1])), these([3]));
+    for (number, bits) in [(2, 24), (3, 128), (4, 64), (5, 256)] {
+        assert_eq!(of(Tree::Semantic(number)), these([bits]));
+    }
+    assert_eq!(of(Tree::Semantic(0)), any());
+    assert_eq!(of(Tree::Semantic(1)), any());
+}
+
+#[test]
+fn encodings_give_multiples_of_eight() {
+    let bytes = |most: u64| -> Lengths { (1..=most).map(|bytes| 8 * bytes).collect() };
+    let types = [
+        (1, 2, 3),
+        (1, 3, 5),
+        (1, 4, 10),
+        (2, 6, 3),
+        (2, 7, 5),
+        (2, 8, 10),
+    ];
+    for (encoding, number, most) in types {
+        let tree = Tree::Primitive(number);
+        assert_eq!(encoded(0, encoding, tree.clone()), bytes(most));
+        assert_eq!(encoded(2, encoding, tree.clone()), bytes(most), "Delta");
+        // The other of the two does not know the type.
+        assert_eq!(encoded(0, 3 - encoding, tree), bytes(10));
+    }
+    assert_eq!(encoded(0, 1, VOID), bytes(10));
+    assert_eq!(encoded(0, 1, ITSELF), bytes(10));
+    assert_eq!(encoded(0, 2, wrap(OPTIONAL, Tree::Primitive(6))), bytes(10));
+    assert_eq!(encoded(3, 0, U8), these([8]), "Delta of Default");
+}
+
+#[test]
+fn wrappers() {
+    assert_eq!(of(wrap(OPTIONAL, U8)), these([1, 9]));
+    assert_eq!(of(wrap(OPTIONAL, wrap(OPTIONAL, BOOL))), these([1, 2, 3]));
+    assert_eq!(of(pair(RESULT, U8, U32)), these([9, 33]));
+    assert_eq!(
+        of(pair(RESULT, VOID, Tree::Semantic(0))),
+        Lengths::any_from(1)
+    );
+    for tree in [wrap(ARRAY, U8), wrap(SET, VOID), pair(MAP, U8, U8)] {
+        assert_eq!(of(tree), Lengths::any_from(8));
+    }
+    // Elements do not count, not even those without lengths.
+    assert_eq!(of(wrap(ARRAY, ITSELF)), Lengths::any_from(8));
+}
+
+#[test]
+fn sums_of_that_many() {
+    let one = || wrap(OPTIONAL, BOOL);
+    assert_eq!(of(fixed(U8, 5)), these([40]));
+    assert_eq!(of(fixed(one(), 3)), these([3, 4, 5, 6]));
+    assert_eq!(of(fixed(pair(RESULT, VOID, U8), 2)), these([2, 10, 18]));
+    for (kind, count) in [(VEC2, 2), (VEC3, 3), (12, 4), (13, 4), (14, 9), (MAT4, 16)] {
+        let sum: Lengths = (count..=2 * count).collect();
+        assert_eq!(of(wrap(kind, one())), sum, "kind {kind}");
+    }
+    assert_eq!(of(fixed(Tree::Semantic(0), 0)), these([0]));
+    assert_eq!(
+        of(fixed(ITSELF, 0)),
+        these([0]),
+        "of a type without lengths"
+    );
+    assert_eq!(of(fixed(VOID, u64::MAX)), these([0]));
+    let far = of(fixed(wrap(OPTIONAL, VOID), u64::MAX));
+    assert_eq!((far.ends(), far.reaches_beyond()), (None, true));
+}
+
+#[test]
+fn messages_and_unions() {
+    assert_eq!(first(vec![message(0, vec![])]), these([0]));
+    let fields = || {
+        vec![
+            field(0, wrap(OPTIONAL, U8)),
+            field(0, pair(RESULT, BOOL, U32)),
+        ]
+    };
+    assert_eq!(first(vec![message(0, fields())]), these([3, 11, 34, 42]));
+    assert_eq!(first(vec![union(vec![])]), these([8]));
+    assert_eq!(first(vec![union(vec![vec![]])]), these([8]));
+    let variants = vec![vec![field(0, U8)], fields()];
+    assert_eq!(first(vec![union(variants)]), these([11, 16, 19, 42, 50]));
+}
+
+#[test]
+fn names() {
+    let named = Tree::Named(1);
+    assert_eq!(beside(named.clone(), &[]), any(), "missing");
+    assert_eq!(beside(named.clone(), &[Slot::Empty]), any());
+    assert_eq!(beside(named.clone(), &[Slot::Config]), any());
+    let newtype = Slot::Newtype {
+        inner: U32,
+        terminal: wrap(OPTIONAL, U8),
+    };
+    assert_eq!(beside(named.clone(), &[newtype]), these([1, 9]));
+    let enumeration = Slot::Enum {
+        backing: 0,
+        non_exhaustive: 0,
+        bits: 30,
+        ordinals: vec![5, 2],
+    };
+    let flags = Slot::Flags {
+        bytes: 7,
+        bits: vec![9],
+    };
+    let slots = vec![
+        message(0, vec![field(0, Tree::Named(1))]),
+        message(1, vec![field(0, Tree::Named(2)), field(0, Tree::Named(3))]),
+        enumeration,
+        flags,
+    ];
+    let mut schema = declared(vec![0], slots);
+    assert_eq!(all(&schema)[0], these([3 + 16]), "declared: computed");
+    schema.declarations = vec![0];
+    assert_eq!(all(&schema)[0], these([30 + 56]), "undeclared: stored");
+}
+
+#[test]
+fn values_are_finite() {
+    // By no number of steps.
+    assert_eq!(of(ITSELF), Lengths::NONE);
+    assert_eq!(of(wrap(VEC2, ITSELF)), Lengths::NONE);
+    assert_eq!(of(pair(RESULT, ITSELF, ITSELF)), Lengths::NONE);
+    let both = message(0, vec![field(0, wrap(OPTIONAL, U8)), field(0, ITSELF)]);
+    assert_eq!(first(vec![both]), Lengths::NONE);
+    // A list: 1 for its end, 1 + 3 for each further part.
+    let next = wrap(OPTIONAL, ITSELF);
+    let list = message(0, vec![field(0, Tree::SubByte(0, 3)), field(0, next)]);
+    let mut lengths: Lengths = (0..HORIZON / 4).map(|parts| 4 + 4 * parts).collect();
+    lengths.put(HORIZON);
+    assert_eq!(first(vec![list]), lengths);
+    // A union that ends: 8, or 8 more than itself.
+    let ends = union(vec![vec![], vec![field(0, ITSELF)]]);
+    let mut lengths: Lengths = (1..HORIZON / 8).map(|times| 8 * times).collect();
+    lengths.put(HORIZON);
+    assert_eq!(first(vec![ends]), lengths);
+}
+
+#[test]
+fn sizes_brought_do_not_count() {
+    let mut brings = message(1, vec![field(0, U8)]);
+    if let Slot::Message { stored, .. } = &mut brings {
+        *stored = Stored::Fixed(99);
+    }
+    assert_eq!(beside(Tree::Named(1), &[brings]), these([8]));
+}
+
+#[test]
+fn sums_and_shifts_at_the_horizon() {
+    let last = Lengths::one(HORIZON - 1);
+    assert_eq!(last.longer(1), Lengths::one(HORIZON));
+    assert_eq!(last.longer(HORIZON + 5), Lengths::one(HORIZON));
+    assert!(last.plus(&Lengths::one(1)).reaches_beyond());
+    assert_eq!(last.plus(&Lengths::one(0)), last);
+    assert_eq!(last.plus(&Lengths::NONE), Lengths::NONE);
+    assert_eq!(Lengths::one(HORIZON).plus(&Lengths::NONE), Lengths::NONE);
+    assert_eq!(last.has(HORIZON), Some(false));
+    assert_eq!(Lengths::one(HORIZON).has(HORIZON), None);
+}
+
+/// Sums of sets against trying all pairs.
+#[test]
+fn sums_are_all_pairs() {
+    let mut random = oracle::random::Random::new(SEED, 0);
+    for _ in 0..300 {
+        let mut set = || -> Vec<u64> {
+            let bound = random.pick(&[5, 70, 700]);
+            let count = random.below(40);
+            (0..count).map(|_| random.below(bound)).collect()
+        };
+        let (one, other) = (set(), set());
+        let pairs = one.iter().flat_map(|a| other.iter().map(move |b| a + b));
+        let sum: Lengths = pairs.collect();
+        let (one, other): (Lengths, Lengths) =
+            (one.into_iter().collect(), other.into_iter().collect());
+        assert_eq!(one.plus(&other), sum);
+        let three = one.plus(&one).plus(&one);
+        assert_eq!(one.times(3), three);
+    }
+}
+
+/// Schemas, facts and the Rust's tables, made once for all wrong sizes.
+fn prepared() -> &'static [(Schema, Facts, Vec<u64>)] {
+    static ALL: OnceLock<Vec<(Schema, Facts, Vec<u64>)>> = OnceLock::new();
+    ALL.get_or_init(|| {
+        let one = |number| {
+            let schema = schema(SEED, number);
+            let image = schema.bytes();
+            let imported = import(&image).expect("an accepted image");
+            let answer = Whole::sizes_of(&image).sizes_answer(3 * schema.slots.len() as u64);
+            let Ok(Answer::Accepted { sizes, .. }) = answer else {
+                panic!("{answer:?}");
+            };
+            (schema, Facts::of(&imported.schema), sizes)
+        };
+        (0..6_000).map(one).collect()
+    })
+}
+
+#[test]
+fn right_sizes_are_the_rusts() {
+    for (schema, _, sizes) in prepared() {
+        assert_eq!(&table(schema, Wrong::Nothing), sizes, "{schema:?}");
+    }
+}
+
+fn found(wrong: Wrong) -> Vec<Violation> {
+    let judged = prepared().iter().filter_map(|(schema, facts, _)| {
+        let table = table(schema, wrong);
+        facts.judge(&table, &mut Tally::default())
+    });
+    judged.collect()
+}
+
+#[test]
+fn wrong_sizes_are_told() {
+    for &wrong in Wrong::ALL {
+        let found = found(wrong);
+        let told = found.len();
+        let right = wrong == Wrong::Nothing || NOT_ASKED.contains(&wrong);
+        assert_eq!(told == 0, right, "{wrong:?}: {told} {:?}", found.first());
+        println!("{wrong:?}: {told}");
+        if NOT_ASKED.contains(&wrong) {
+            let differs =
+                |(schema, _, sizes): &(Schema, Facts, Vec<u64>)| &table(schema, wrong) != sizes;
+            assert!(prepared().iter().any(differs), "{wrong:?}");
+        }
+    }
+}
+
+/// Each clause is the one that tells some wrong size.
+#[test]
+fn each_clause_tells_one() {
+    let wrong = [
+        (Wrong::LargestLess, Clause::Enclosure),
+        (Wrong::ResultOfLesser, Clause::Enclosure),
+        (Wrong::SmallestLess, Clause::Smallest),
+        (Wrong::LargestMore, Clause::Largest),
+        (Wrong::FixedAsBounded, Clause::Fixed),
+    ];
+    for (wrong, clause) in wrong {
+        let told = |one: &Violation| one.clause == Some(clause);
+        assert!(found(wrong).iter().any(told), "{wrong:?} by {clause:?}");
+    }
+    // A type without lengths: its row is enclosing whatever it says.
+    let schema = declared(vec![0], vec![message(0, vec![field(0, ITSELF)])]);
+    let imported = import(&schema.bytes()).expect("an accepted image");
+    let facts = Facts::of(&imported.schema);
+    let judged = facts.judge(&[2, 5, 3], &mut Tally::default());
+    assert_eq!(judged.map(|one| one.clause), Some(Some(Clause::Order)));
+    assert_eq!(facts.judge(&[3, 0, 0], &mut Tally::default()), None);
+}
+
+#[test]
+fn provisos_are_decided() {
+    let brings = |size: Stored| {
+        let mut slot = message(0, vec![field(0, wrap(OPTIONAL, U8))]);
+        if let Slot::Message { stored, .. } = &mut slot {
+            *stored = size;
+        }
+        let user = message(1, vec![field(0, Tree::Named(0))]);
+        let schema = Schema {
+            names: vec![0],
+            slots: vec![slot, user],
+            declarations: vec![1],
+        };
+        Facts::of(&import(&schema.bytes()).expect("an accepted image").schema)
+    };
+    let sizes = [
+        (Stored::Bounded(1, 9), Truth::Yes, true),
+        (Stored::Bounded(0, 12), Truth::Yes, true),
+        (Stored::Open(1), Truth::Yes, true),
+        (Stored::Open(2), Truth::No, true),
+        (Stored::Bounded(1, 8), Truth::No, true),
+        (Stored::Fixed(9), Truth::No, true),
+        (Stored::Bounded(9, 1), Truth::No, false),
+    ];
+    for (size, enclosing, ordered) in sizes {
+        let facts = brings(size.clone());
+        assert_eq!(
+            (facts.enclosing, facts.ordered),
+            (enclosing, ordered),
+            "{size:?}"
+        );
+        assert!(!facts.none_brought);
+    }
+    assert!(brings(Stored::None).none_brought);
+}
+
+#[test]
+fn leading_back_follows_parts() {
+    let back = |tree: Tree, last: u64| {
+        let encoding = Encoding { deltas: 1, last };
+        let field = Field {
+            encoding,
+            ..field(0, tree)
+        };
+        let schema = declared(vec![0], vec![message(0, vec![field])]);
+        Facts::of(&import(&schema.bytes()).expect("an accepted image").schema).back[0]
+    };
+    for tree in [
+        ITSELF,
+        wrap(OPTIONAL, ITSELF),
+        fixed(ITSELF, 0),
+        wrap(MAT4, ITSELF),
+        pair(RESULT, U8, ITSELF),
+    ] {
+        assert!(back(tree.clone(), 0), "{tree:?}");
+        assert!(!back(tree, 1), "a Varint has no parts");
+    }
+    for tree in [
+        wrap(ARRAY, ITSELF),
+        wrap(SET, ITSELF),
+        pair(MAP, ITSELF, ITSELF),
+        U8,
+    ] {
+        assert!(!back(tree.clone(), 0), "{tree:?}");
+    }
+    // One that is reached leads back, the type itself does not.
+    let slots = vec![
+        message(0, vec![field(0, Tree::Named(1))]),
+        message(1, vec![field(0, wrap(OPTIONAL, Tree::Named(1)))]),
+    ];
+    let schema = declared(vec![0], slots);
+    let facts = Facts::of(&import(&schema.bytes()).expect("an accepted image").schema);
+    assert_eq!(facts.back, [true, true]);
+}
+
+#[test]
+fn the_rust_meets_demand_three() {
+    let count = 3_000;
+    let summary = run(count, 9, &subjects(None));
+    assert!(summary.broken.is_none(), "{:?}", summary.broken);
+    assert_eq!(summary.too_low(count), Vec::<String>::new());
+    let (_, tally) = &summary.small.tallies[0];
+    for proviso in Proviso::ALL {
+        assert!(tally.needed[proviso as usize] > 0, "{proviso:?}");
+    }
+    assert!(tally.held.iter().all(|&held| held > 0), "{tally:?}");
+}
