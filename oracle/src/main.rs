@@ -34,7 +34,8 @@ oracle images --count N --seed S --out FOLDER    images that are not long, a fil
 oracle program --binary FILE --count N --seed S  a vexcheck and the Rust on generated images
 oracle lengths --count N --seed S                enumerated lengths beside the size tables
 oracle bench                                     times of reading, sizes, check; ratios
-oracle stack                                     least stack on which deep images are answered
+oracle stack                                     deep images on stacks of the recorded size
+oracle stack --measure                           the least stacks, to be recorded
 oracle answer < image                            the lines of vexcheck
 oracle export-example > image                    the bond report as an image
 oracle families                                  the families of generated images
@@ -168,11 +169,15 @@ fn run_read() -> Result<(), Failure> {
     Ok(())
 }
 
-/// Searches, or answers one case as a process of its own.
+/// Holds or measures, or answers one case as a process of its own.
 fn run_stack(options: &[String]) -> Result<bool, Failure> {
     let ours = ours().ok();
+    if options.iter().any(|option| option == "--measure") {
+        stack::measure(ours)?;
+        return Ok(true);
+    }
     let Some(name) = option(options, "--subject") else {
-        return Ok(stack::search(ours)?);
+        return Ok(stack::hold(ours)?);
     };
     let subject = Subject::ALL.into_iter().find(|one| one.name() == name);
     let subject = subject.ok_or_else(|| format!("no subject {name}"))?;

@@ -12,22 +12,66 @@ use crate::library::Library;
 use crate::model::Schema;
 use crate::typeck::{check, compute_wire_sizes};
 
-/// Stacks in KiB between which the least is searched, and how closely. The
-/// most is what a program is usually given.
+/// Stacks in KiB between which the least is searched, and how closely, which
+/// is one part in `CLOSE` for long ones.
 const LEAST: u64 = 16;
-const MOST: u64 = 8 << 10;
+const MOST: u64 = 1 << 20;
 const STEP: u64 = 4;
+const CLOSE: u64 = 1_000;
 
-/// What `vexcheck` keeps on its stack, and so what is left for the check.
-const PROGRAM: u64 = 320;
-const LEFT: u64 = MOST - PROGRAM;
+/// What a program is usually given, in KiB, and what `vexcheck` keeps of it for
+/// itself: the check has to get by with the rest, those cases aside that are
+/// known to end the program.
+pub const PROGRAM: u64 = 8 << 10;
+const KEPT: u64 = 320;
 
-/// The check has to get by with what is left on the first so many cases.
-const BOUND: usize = 2;
+/// A figure may be exceeded by one part in so many.
+const SLACK: u64 = 20;
+
+/// Least KiB of each case by subject, as `stack --measure` prints them. The
+/// figures of the Rust are those of rustc 1.95 and are not held.
+#[rustfmt::skip]
+const RECORDED: [[u64; 4]; 12] = [
+    [6952, 6952, 1620, 1624], // 512 declared messages, the outermost first
+    [6952, 6952, 1620, 1624], // 512 messages, one declared
+    [6968, 6968, 1636, 1640], // 512 unions
+    [6800, 6800, 1540, 1544], // 512 newtypes below a message
+    [6880, 6880, 1580, 1584], // 512 messages and newtypes in turns
+    [6952, 6952, 1620, 1624], // 512 messages, Fixed
+    [6952, 6952, 1620, 1624], // 512 messages, Result
+    [6952, 6952, 3108, 3112], // 512 messages, Deltas
+    [1012, 1012, 136, 136], // 512 messages, no wrappers
+    [13568, 13568, 3068, 3068], // 2 messages, newtypes gone through again
+    [20320, 20320, 4592, 4592], // 3 messages, newtypes gone through again
+    [27040, 27040, 6112, 6112], // 4 messages, newtypes gone through again
+];
 
 pub struct Case {
     pub name: String,
-    schema: Schema,
+    pub image: Vec<u8>,
+    recorded: [u64; 4],
+}
+
+impl Case {
+    /// The least KiB on which a subject answered when it was measured.
+    pub fn recorded(&self, subject: Subject) -> u64 {
+        self.recorded[subject as usize]
+    }
+
+    /// Whether the program, on its usual stack, is known to end by a signal.
+    pub fn ends_program(&self) -> bool {
+        self.recorded(Subject::Check) > PROGRAM
+    }
+
+    /// KiB on which a subject of ours has to answer.
+    fn held(&self, subject: Subject) -> u64 {
+        let figure = self.recorded(subject);
+        let held = (figure + figure / SLACK).next_multiple_of(STEP);
+        match self.ends_program() {
+            true => held,
+            false => held.min(PROGRAM - KEPT),
+        }
+    }
 }
 
 pub fn cases() -> Vec<Case> {
@@ -39,11 +83,11 @@ pub fn cases() -> Vec<Case> {
     };
     let messages = chain(Link::Message, Wrapper::Optional);
     let mut cases = vec![
-        case(
-            "512 declared messages, the outermost first",
+        (
+            "512 declared messages, the outermost first".into(),
             messages.in_reverse(),
         ),
-        case("512 messages, one declared", messages.below_one()),
+        ("512 messages, one declared".into(), messages.below_one()),
     ];
     let links = [
         ("unions", Link::Union),
@@ -52,28 +96,33 @@ pub fn cases() -> Vec<Case> {
     ];
     for (name, link) in links {
         let schema = chain(link, Wrapper::Optional).below_one();
-        cases.push(case(&format!("512 {name}"), schema));
+        cases.push((format!("512 {name}"), schema));
     }
     for wrapper in [Wrapper::Fixed, Wrapper::Result, Wrapper::Deltas] {
         let schema = chain(Link::Message, wrapper).below_one();
-        cases.push(case(&format!("512 messages, {wrapper:?}"), schema));
+        cases.push((format!("512 messages, {wrapper:?}"), schema));
     }
     let bare = Chain {
         levels: 0,
         ..messages
     };
-    cases.push(case("512 messages, no wrappers", bare.below_one()));
-    for messages in [2, 4] {
+    cases.push(("512 messages, no wrappers".into(), bare.below_one()));
+    for messages in [2, 3, 4] {
         let name = format!("{messages} messages, newtypes gone through again");
-        cases.push(case(&name, through_again(messages)));
+        cases.push((name, through_again(messages)));
     }
+    assert_eq!(cases.len(), RECORDED.len());
+    let cases = cases.into_iter().zip(RECORDED);
     cases
+        .map(|((name, schema), figures)| case(name, &schema, figures))
+        .collect()
 }
 
-fn case(name: &str, schema: Schema) -> Case {
+fn case(name: String, schema: &Schema, recorded: [u64; 4]) -> Case {
     Case {
-        name: name.into(),
-        schema,
+        name,
+        image: schema.bytes(),
+        recorded,
     }
 }
 
@@ -108,34 +157,68 @@ impl Subject {
     }
 }
 
-/// Prints the least stack of each case in KiB, and answers whether our check
-/// gets by where it has to. Without a library only the Rust is measured.
-pub fn search(ours: Option<Library>) -> io::Result<bool> {
-    let subjects: Vec<Subject> = Subject::ALL
-        .into_iter()
-        .filter(|&subject| measurable(subject, ours))
-        .collect();
-    print!("{:46}{:>7}", "least stack in KiB", "bytes");
-    subjects.iter().for_each(|one| print!("{:>12}", one.name()));
-    println!();
-    let mut enough = true;
+/// Holds our check and sizes to the figures of each case, and prints them;
+/// false if one is exceeded. Without a library there is nothing to hold.
+pub fn hold(ours: Option<Library>) -> io::Result<bool> {
+    heading("recorded KiB (held to)", &Subject::ALL);
+    let (mut exceeded, mut stale) = (0, 0);
+    let mut notes = Vec::new();
     for (index, case) in cases().iter().enumerate() {
-        print!("{:46}{:>7}", case.name, case.schema.bytes().len());
-        for &subject in &subjects {
-            let least = least(index, subject)?;
-            match least {
-                Some(stack) => print!("{stack:>12}"),
-                None => print!("{:>12}", "more"),
+        print!("{:46}{:>7}", case.name, case.image.len());
+        for subject in Subject::ALL {
+            let (figure, held) = (case.recorded(subject), case.held(subject));
+            if !subject.is_ours() || !measurable(subject, ours) {
+                print!("{figure:>16}");
+                continue;
             }
-            if index < BOUND && subject == Subject::Check {
-                enough &= least.is_some_and(|stack| stack <= LEFT);
+            print!("{:>16}", format!("{figure} ({held})"));
+            if !runs(index, subject, held)? {
+                exceeded += 1;
+                notes.push((index, subject, "EXCEEDED"));
+            } else if runs(index, subject, figure - figure / SLACK)? {
+                stale += 1;
+                notes.push((index, subject, "less than recorded"));
             }
         }
         println!();
     }
-    let verdict = if enough { "enough" } else { "NOT ENOUGH" };
-    println!("stack: {LEFT} KiB are {verdict} for the check of the first {BOUND}");
-    Ok(enough)
+    for (index, subject, note) in notes {
+        let (case, name) = (&cases()[index], subject.name());
+        let least = least(index, subject)?.map_or("over 1 GiB".into(), |kib| kib.to_string());
+        println!("{}: {name} takes {least} KiB, {note}", case.name);
+    }
+    if stale > 0 {
+        println!("{stale} figures can be lowered: `stack --measure` prints the table");
+    }
+    let verdict = match exceeded {
+        0 => "no figure is exceeded".into(),
+        count => format!("{count} figures are EXCEEDED"),
+    };
+    println!("stack: {} cases, {verdict}", RECORDED.len());
+    Ok(exceeded == 0)
+}
+
+/// Prints the least stack of each case in KiB, in the form of `RECORDED`.
+/// Without a library only the Rust is measured.
+pub fn measure(ours: Option<Library>) -> io::Result<()> {
+    for (index, case) in cases().iter().enumerate() {
+        let mut figures = Vec::new();
+        for subject in Subject::ALL {
+            let least = match measurable(subject, ours) {
+                true => least(index, subject)?,
+                false => Some(0),
+            };
+            figures.push(least.map_or("MOST".into(), |kib| kib.to_string()));
+        }
+        println!("    [{}], // {}", figures.join(", "), case.name);
+    }
+    Ok(())
+}
+
+fn heading(what: &str, subjects: &[Subject]) {
+    print!("{what:46}{:>7}", "bytes");
+    subjects.iter().for_each(|one| print!("{:>16}", one.name()));
+    println!();
 }
 
 fn measurable(subject: Subject, ours: Option<Library>) -> bool {
@@ -155,8 +238,9 @@ fn least(case: usize, subject: Subject) -> io::Result<Option<u64>> {
         enough *= 2;
     }
     let mut little = enough / 2;
-    while enough - little > STEP {
-        let middle = (little + enough) / 2 / STEP * STEP;
+    let close = STEP.max(enough / CLOSE);
+    while enough - little > close {
+        let middle = ((little + enough) / 2).next_multiple_of(STEP);
         if runs(case, subject, middle)? {
             enough = middle;
         } else {
@@ -180,7 +264,7 @@ fn runs(case: usize, subject: Subject, stack: u64) -> io::Result<bool> {
 /// Answers one case on a stack of so many KiB; does not return if it is too
 /// small.
 pub fn run(case: &Case, subject: Subject, ours: Option<Library>, stack: u64) {
-    let image = case.schema.bytes();
+    let image = case.image.clone();
     let builder = thread::Builder::new().stack_size(stack as usize * 1024);
     let worker = builder.spawn(move || answer(&image, subject, ours));
     let worker = worker.expect("the system starts a thread");
