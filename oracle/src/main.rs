@@ -250,7 +250,7 @@ fn run_program(options: &[String]) -> Result<bool, Failure> {
     let outcome = program::run(selection, &|| Command::new(binary))?;
     if let Some(wrong) = &outcome.wrong {
         println!("image: {}", hex(&wrong.image));
-        println!("Rust:\n{}ours:\n{}", wrong.expected, wrong.written);
+        println!("{wrong}");
     }
     let seconds = start.elapsed().as_secs_f64();
     let verdict = match outcome.wrong {

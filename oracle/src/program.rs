@@ -1,21 +1,69 @@
 //! Runs a program such as `vexcheck` on images and compares all that it
 //! writes with the lines that document 01 gives.
 
+use std::fmt;
 use std::io::{self, Write};
 use std::ops::ControlFlow;
-use std::process::{Command, Stdio};
+use std::process::{Command, ExitStatus, Stdio};
 
 use crate::answer::{answer, lines, PROGRAM_PLACES};
 use crate::compare::{each_image, Selection};
 use crate::specials::specials;
 use crate::workers::{on_long_stack, THREADS};
 
-/// An image, what the program wrote for it, and what it had to write.
+/// How a program ended, and what it had written by then.
+#[derive(Debug, Clone, PartialEq, Eq)]
+pub struct Ran {
+    pub written: String,
+    pub status: ExitStatus,
+}
+
+/// Whatever a program writes, it has to end by itself with status 0.
+#[derive(Debug, Clone, Copy, PartialEq, Eq)]
+pub enum Fault {
+    Signal(ExitStatus),
+    Status(ExitStatus),
+    /// Not even the header was written.
+    Nothing,
+}
+
+impl Ran {
+    pub fn fault(&self) -> Option<Fault> {
+        match self.status.code() {
+            None => Some(Fault::Signal(self.status)),
+            Some(0) if self.written.is_empty() => Some(Fault::Nothing),
+            Some(0) => None,
+            Some(_) => Some(Fault::Status(self.status)),
+        }
+    }
+}
+
+impl fmt::Display for Fault {
+    fn fmt(&self, out: &mut fmt::Formatter<'_>) -> fmt::Result {
+        match self {
+            Fault::Signal(status) => write!(out, "the program was ended by {status}"),
+            Fault::Status(status) => write!(out, "the program ended with {status}"),
+            Fault::Nothing => write!(out, "the program wrote nothing"),
+        }
+    }
+}
+
+/// An image, what the program did with it, and what it had to write.
 #[derive(Debug, PartialEq, Eq)]
 pub struct Wrong {
     pub image: Vec<u8>,
-    pub written: String,
+    pub ran: Ran,
     pub expected: String,
+}
+
+impl fmt::Display for Wrong {
+    fn fmt(&self, out: &mut fmt::Formatter<'_>) -> fmt::Result {
+        if let Some(fault) = self.ran.fault() {
+            writeln!(out, "{fault}")?;
+        }
+        let Self { expected, ran, .. } = self;
+        write!(out, "Rust:\n{expected}ours:\n{}", ran.written)
+    }
 }
 
 #[derive(Debug, Default)]
@@ -81,22 +129,21 @@ impl Outcome {
             return Ok(ControlFlow::Continue(()));
         };
         self.images += 1;
-        let (written, expected) = (output(&mut program(), image)?, lines(&answer));
-        if written == expected {
+        let (ran, expected) = (give(&mut program(), image)?, lines(&answer));
+        if ran.fault().is_none() && ran.written == expected {
             return Ok(ControlFlow::Continue(()));
         }
         self.wrong = Some(Wrong {
             image: image.to_vec(),
-            written,
+            ran,
             expected,
         });
         Ok(ControlFlow::Break(()))
     }
 }
 
-/// What a program writes when it is given an image; a signal that ended it is
-/// told after that, since lines alone do not show it.
-fn output(program: &mut Command, image: &[u8]) -> io::Result<String> {
+/// Starts a program, gives it an image and waits for its end.
+pub fn give(program: &mut Command, image: &[u8]) -> io::Result<Ran> {
     let program = program.stdin(Stdio::piped()).stdout(Stdio::piped());
     let mut child = program.stderr(Stdio::null()).spawn()?;
     let mut input = child.stdin.take().expect("the input is a pipe");
@@ -106,9 +153,8 @@ fn output(program: &mut Command, image: &[u8]) -> io::Result<String> {
         _ => drop(input),
     }
     let output = child.wait_with_output()?;
-    let mut written = String::from_utf8_lossy(&output.stdout).into_owned();
-    if output.status.code().is_none() {
-        written.push_str(&format!("ended by {}\n", output.status));
-    }
-    Ok(written)
+    Ok(Ran {
+        written: String::from_utf8_lossy(&output.stdout).into_owned(),
+        status: output.status,
+    })
 }

@@ -40,6 +40,32 @@ fn another_output_is_seen() {
     assert_eq!(wrong.expected, "vexil-typeck 1\nrefused 2 0\n");
 }
 
+/// A program that a shell runs.
+fn shell(script: &str) -> Command {
+    let mut program = Command::new("sh");
+    program.args(["-c", script]);
+    program
+}
+
+#[test]
+fn a_program_that_is_ended_is_seen() {
+    // Even where its lines are right.
+    let lines = "printf 'vexil-typeck 1\\nrefused 2 0\\n'";
+    let scripts = [
+        (format!("{lines}; kill -SEGV $$"), "was ended by signal: 11"),
+        (format!("{lines}; exit 3"), "ended with exit status: 3"),
+        ("cat > /dev/null".into(), "wrote nothing"),
+    ];
+    for (script, told) in &scripts {
+        let outcome = run(SELECTION, &|| shell(script)).expect("it runs");
+        assert_eq!(outcome.images, 1, "{script}");
+        let wrong = outcome.wrong.expect("it does not end by itself");
+        assert!(wrong.ran.fault().is_some(), "{script}");
+        let text = wrong.to_string();
+        assert!(text.starts_with(&format!("the program {told}")), "{text}");
+    }
+}
+
 #[test]
 fn findings_are_as_many_as_said() {
     for kind in 0..3 {
