@@ -46,6 +46,7 @@ pub mod shrink;
 pub mod small_string;
 pub mod specials;
 pub mod stack;
+pub mod stress;
 pub mod survey;
 pub mod tally;
 pub mod workers;

@@ -18,6 +18,7 @@ use oracle::library::{Call, Library, Verdict};
 use oracle::program;
 use oracle::record::{record, record_lines, write_images};
 use oracle::stack::{self, Subject};
+use oracle::stress;
 use oracle::survey::survey;
 use oracle::tally::{Tally, COLUMNS, TOO_LONG};
 use oracle::workers::on_long_stack;
@@ -32,6 +33,7 @@ oracle record --count N --seed S --out FILE      images and how they are read
 oracle record-lines --count N --seed S --out FILE  images and the lines of vexcheck
 oracle images --count N --seed S --out FOLDER    images that are not long, a file each
 oracle program --binary FILE --count N --seed S  a vexcheck and the Rust on generated images
+oracle stress --binary FILE --count N --seed S   a vexcheck and the Rust on deep images
 oracle lengths --count N --seed S                enumerated lengths beside the size tables
 oracle bench                                     times of reading, sizes, check; ratios
 oracle stack                                     deep images on stacks of the recorded size
@@ -72,6 +74,7 @@ fn run(arguments: &[String]) -> Result<bool, Failure> {
         "record-lines" => run_record_lines(options)?,
         "images" => run_images(options)?,
         "program" => return run_program(options),
+        "stress" => return run_stress(options),
         "lengths" => return run_lengths(options),
         "bench" => on_long_stack(|| bench(ours().ok())),
         "stack" => return run_stack(options),
@@ -259,10 +262,48 @@ fn run_program(options: &[String]) -> Result<bool, Failure> {
         None => format!("INCOMPLETE, {} asked", outcome.asked),
     };
     println!(
-        "program: {} images, {} left out as too long, {verdict}, {seconds:.1} s",
-        outcome.images, outcome.too_long
+        "program: {} images, {} left out as too long, {} end it by a signal as recorded, \
+         {verdict}, {seconds:.1} s",
+        outcome.images, outcome.too_long, outcome.ended
     );
     Ok(outcome.passed())
+}
+
+fn run_stress(options: &[String]) -> Result<bool, Failure> {
+    let binary = option(options, "--binary").ok_or("--binary is missing")?;
+    let deep = family_named("deep").ok_or("no family deep")?;
+    let selection = Selection {
+        families: Families::One(deep),
+        ..selection(options)?
+    };
+    let start = Instant::now();
+    let outcome = stress::run(binary, selection)?;
+    outcome.known.iter().for_each(|known| println!("{known}"));
+    if outcome.kept_short {
+        println!("these were not tried on a long stack: the limit cannot be raised here");
+    }
+    match &outcome.failure {
+        Some(stress::Failure::Wrong(wrong)) => {
+            println!("image: {}\n{wrong}", hex(&wrong.image));
+        }
+        Some(stress::Failure::Answered(name)) => {
+            println!("{name}: answered, but recorded as ending the program");
+        }
+        None => {}
+    }
+    let verdict = match outcome.failure {
+        None => "no other difference",
+        Some(_) => "DIFFERENT",
+    };
+    let seconds = start.elapsed().as_secs_f64();
+    println!(
+        "stress: {} images, {} end the program by a signal as recorded, {} left out as too long, \
+         {verdict}, {seconds:.1} s",
+        outcome.images(),
+        outcome.known.len(),
+        outcome.too_long
+    );
+    Ok(outcome.failure.is_none())
 }
 
 fn run_lengths(options: &[String]) -> Result<bool, Failure> {

@@ -1,15 +1,17 @@
 //! Running a program on images, and the records of what it has to write.
 
+use std::path::Path;
 use std::process::Command;
 use std::sync::atomic::{AtomicU64, Ordering};
 
 use oracle::answer::{answer, lines, PROGRAM_PLACES};
 use oracle::compare::Selection;
 use oracle::generate::findings::many_findings;
-use oracle::generate::Families;
-use oracle::program::run;
+use oracle::generate::{family_named, Families};
+use oracle::program::{run, Fault};
 use oracle::record::record_lines;
 use oracle::specials::specials;
+use oracle::{stack, stress};
 
 const SELECTION: Selection = Selection {
     count: 200,
@@ -63,6 +65,48 @@ fn a_program_that_is_ended_is_seen() {
         assert!(wrong.ran.fault().is_some(), "{script}");
         let text = wrong.to_string();
         assert!(text.starts_with(&format!("the program {told}")), "{text}");
+    }
+}
+
+/// A script that stands for `vexcheck`, in a file of this name.
+fn script(name: &str, text: &str) -> String {
+    let file = Path::new(env!("CARGO_TARGET_TMPDIR")).join(name);
+    std::fs::write(&file, format!("#!/bin/sh\n{text}\n")).expect("a file is written");
+    let run = std::os::unix::fs::PermissionsExt::from_mode(0o700);
+    std::fs::set_permissions(&file, run).expect("it is made to run");
+    file.to_str().expect("a plain name").into()
+}
+
+#[test]
+fn a_signal_is_known_or_a_failure() {
+    let deep = Selection {
+        count: 2,
+        seed: 5,
+        families: Families::One(family_named("deep").expect("a family")),
+    };
+    let answers = format!("exec {} answer", env!("CARGO_BIN_EXE_oracle"));
+
+    let never = script("never", &answers);
+    let outcome = stress::run(&never, deep).expect("it runs");
+    let told = outcome.failure.expect("three are recorded as ending it");
+    assert!(matches!(told, stress::Failure::Answered(_)), "{told:?}");
+
+    let always = script("always", "kill -SEGV $$");
+    let outcome = stress::run(&always, deep).expect("it runs");
+    let Some(stress::Failure::Wrong(wrong)) = outcome.failure else {
+        panic!("{outcome:?}");
+    };
+    assert!(matches!(wrong.ran.fault(), Some(Fault::Signal(_))));
+
+    // Only where it is known, and only on the short stack.
+    let some = "cat > $0.image; bytes=$(wc -c < $0.image)\n\
+                [ $bytes -ge 18805 ] && [ $bytes -le 18819 ] && [ $(ulimit -s) = 8192 ] && kill -SEGV $$\n";
+    let as_known = script("known", &format!("{some}{answers} < $0.image"));
+    let outcome = stress::run(&as_known, deep).expect("it runs");
+    assert!(outcome.failure.is_none(), "{outcome:?}");
+    assert_eq!(outcome.known.len(), 3);
+    for known in &outcome.known {
+        assert!(known.rust < stack::PROGRAM && stack::PROGRAM < known.ours);
     }
 }
 
