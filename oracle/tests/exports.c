@@ -1,0 +1,135 @@
+/* Calls every export from C with arguments that tell each other apart: images, tables and lengths all differ, tables are marked
+ * beforehand and watched past their end. A pointer or a length in another's place changes what is seen. */
+#include <stdio.h>
+#include <string.h>
+
+#include "vexil.h"
+
+enum { MARK = 0x5a5a, SIZES = 12, FINDINGS = 15, STARTS = 5, GUARD = 4 };
+
+/* An enum of ordinal 4; a message with the span 5, 9 that holds itself and the enum; an empty slot. The first two are declared. */
+static const uint8_t loop[] = {1, 0, 3, 2, 0, 0, 0, 1, 4, 1, 5, 9, 0, 2, 0, 0, 3, 1, 0, 0, 3, 0, 0, 2, 0, 1};
+static const uint64_t loop_sizes[] = {VEXIL_SIZE_ENUM, 3, 0, VEXIL_SIZE_OPEN, 3, 0, VEXIL_SIZE_NONE, 0, 0};
+static const uint32_t loop_findings[] = {VEXIL_FINDING_ENDLESS, 1, 5, 9, 0, 0};
+static const size_t loop_starts[] = {3, 9, 22};
+
+/* A number at byte 1 that is not in its shortest form. */
+static const uint8_t long_form[] = {1, 0x80, 0, 0, 0};
+
+static uint64_t sizes[SIZES + GUARD];
+static uint32_t findings[FINDINGS + GUARD];
+static size_t starts[STARTS + GUARD];
+static int calls, wrong;
+
+static void mark(void)
+{
+    for (size_t i = 0; i < SIZES + GUARD; i++)
+        sizes[i] = MARK;
+    for (size_t i = 0; i < FINDINGS + GUARD; i++)
+        findings[i] = MARK;
+    for (size_t i = 0; i < STARTS + GUARD; i++)
+        starts[i] = MARK;
+}
+
+static void expect(const char *call, const char *what, size_t place, uint64_t is, uint64_t due)
+{
+    if (is == due)
+        return;
+    printf("%s: %s %zu is %llu, not %llu\n", call, what, place, (unsigned long long)is, (unsigned long long)due);
+    wrong++;
+}
+
+/* What a table has to hold at a place: the rows, then zeros up to its length, and past it the mark. */
+static uint64_t due(uint64_t row, size_t place, size_t used, size_t length)
+{
+    return place < used ? row : place < length ? 0 : MARK;
+}
+
+static void expect_sizes(const char *call, size_t length, size_t used)
+{
+    for (size_t i = 0; i < SIZES + GUARD; i++)
+        expect(call, "size", i, sizes[i], due(loop_sizes[i < 9 ? i : 0], i, used, length));
+}
+
+static void expect_findings(const char *call, size_t length, size_t used)
+{
+    for (size_t i = 0; i < FINDINGS + GUARD; i++)
+        expect(call, "finding", i, findings[i], due(loop_findings[i < 6 ? i : 0], i, used, length));
+}
+
+static void expect_starts(const char *call, size_t length, size_t used)
+{
+    for (size_t i = 0; i < STARTS + GUARD; i++)
+        expect(call, "start", i, starts[i], due(loop_starts[i < 3 ? i : 0], i, used, length));
+}
+
+static void expect_answer(const char *call, struct vexil_answer answer, uint64_t number, uint64_t value)
+{
+    expect(call, "number", 0, answer.number, number);
+    expect(call, "value", 0, answer.value, value);
+    calls++;
+}
+
+/* Each tries one call. A table of length 0 is lent as a null pointer. */
+static void check(const char *call, const uint8_t *image, size_t length, size_t s, size_t f, uint64_t number, uint64_t value)
+{
+    mark();
+    expect_answer(call, vexil_check(image, length, s ? sizes : NULL, s, f ? findings : NULL, f), number, value);
+    expect_sizes(call, s, number ? 0 : 9);
+    expect_findings(call, f, number ? 0 : 6);
+    expect_starts(call, 0, 0);
+}
+
+static void size(const char *call, const uint8_t *image, size_t length, size_t s, uint64_t number, uint64_t value)
+{
+    mark();
+    expect_answer(call, vexil_sizes(image, length, s ? sizes : NULL, s), number, value);
+    expect_sizes(call, s, number ? 0 : 9);
+    expect_findings(call, 0, 0);
+    expect_starts(call, 0, 0);
+}
+
+static void read(const char *call, const uint8_t *image, size_t length, size_t s, uint64_t number, uint64_t value)
+{
+    mark();
+    expect_answer(call, vexil_read(image, length, s ? starts : NULL, s), number, value);
+    expect_sizes(call, 0, 0);
+    expect_findings(call, 0, 0);
+    expect_starts(call, s, number ? 0 : s < 3 ? s : 3);
+}
+
+int main(void)
+{
+    /* so that what was seen stands there even if a call ends the program */
+    setvbuf(stdout, NULL, _IOLBF, 0);
+
+    check("check", loop, sizeof loop, SIZES, FINDINGS, VEXIL_ACCEPTED, 1);
+    check("check, exact tables", loop, sizeof loop, 9, 6, VEXIL_ACCEPTED, 1);
+    check("check, a byte less", loop, sizeof loop - 1, SIZES, FINDINGS, VEXIL_REFUSED_CUT, 25);
+    check("check, another image", long_form, sizeof long_form, SIZES, FINDINGS, VEXIL_REFUSED_FORM, 1);
+    check("check, short sizes", loop, sizeof loop, 8, FINDINGS, VEXIL_REFUSED_SIZES, 0);
+    check("check, short findings", loop, sizeof loop, SIZES, 5, VEXIL_REFUSED_FINDINGS, 0);
+    check("check, null image", NULL, 0, SIZES, FINDINGS, VEXIL_REFUSED_CUT, 0);
+    check("check, null sizes", loop, sizeof loop, 0, FINDINGS, VEXIL_REFUSED_SIZES, 0);
+    check("check, null findings", loop, sizeof loop, SIZES, 0, VEXIL_REFUSED_FINDINGS, 0);
+    check("check, all null", NULL, 0, 0, 0, VEXIL_REFUSED_CUT, 0);
+
+    size("sizes", loop, sizeof loop, SIZES, VEXIL_ACCEPTED, 0);
+    size("sizes, a byte less", loop, sizeof loop - 1, SIZES, VEXIL_REFUSED_CUT, 25);
+    size("sizes, another image", long_form, sizeof long_form, SIZES, VEXIL_REFUSED_FORM, 1);
+    size("sizes, short sizes", loop, sizeof loop, 8, VEXIL_REFUSED_SIZES, 0);
+    size("sizes, null image", NULL, 0, SIZES, VEXIL_REFUSED_CUT, 0);
+    size("sizes, null sizes", loop, sizeof loop, 0, VEXIL_REFUSED_SIZES, 0);
+    size("sizes, all null", NULL, 0, 0, VEXIL_REFUSED_CUT, 0);
+
+    read("read", loop, sizeof loop, STARTS, VEXIL_ACCEPTED, 3);
+    read("read, short starts", loop, sizeof loop, 2, VEXIL_ACCEPTED, 3);
+    read("read, a byte less", loop, sizeof loop - 1, STARTS, VEXIL_REFUSED_CUT, 25);
+    read("read, another image", long_form, sizeof long_form, STARTS, VEXIL_REFUSED_FORM, 1);
+    read("read, null image", NULL, 0, STARTS, VEXIL_REFUSED_CUT, 0);
+    read("read, null starts", loop, sizeof loop, 0, VEXIL_ACCEPTED, 3);
+    read("read, all null", NULL, 0, 0, VEXIL_REFUSED_CUT, 0);
+
+    printf("exports: %d calls, %d differences\n", calls, wrong);
+    return wrong != 0;
+}
