@@ -10,6 +10,7 @@ use Rattle.number.specs.Grammar.{slot, number, many, done, refused, below, read
 use Rattle.number.proofs.Reading.{not-done, given, read-number, front}
 use Rattle.slot.specs.Slot.{Slot, empty, message, enum, flags, union, newtype, config, alias, trait, impl}
 use Rattle.image.specs.Schema.{Schema, slotOf}
+use Rattle.reader.specs.Reading.{schemaOf}
 use Rattle.sizes.specs.declared.Size.{Size}
 use Rattle.sizes.specs.declared.Operation.{Operation}
 use Rattle.sizes.specs.declared.Worked.{Worked}
@@ -21,8 +22,8 @@ use Rattle.sizes.specs.Check as check
 use Rattle.sizes.specs.Demand.{Sizable, isMessage, isUnion}
 use Rattle.rows.proofs.Table.{place-is, stored}
 use Rattle.wiresize.specs.Rows.{RowsHold}
-use Rattle.wiresize.specs.Asked.{turnOf}
-use Rattle.turns.specs.Sizing.{TurnTaken, Through}
+use Rattle.wiresize.specs.Asked.{Held, turnOf}
+use Rattle.turns.specs.Sizing.{Begun, TurnTaken, Through}
 use Rattle.wiresize.specs.declared.Turned.{Turned}
 use Rattle.turns.specs.declared.Taken.{Taken}
 use Rattle.turns.specs.declared.Passed.{Passed}
@@ -167,3 +168,9 @@ module _ (s : List ℕ) (S : Schema) (l₀ : List ℕ) where
                   same = w .same ∙ ap (turns S (w .state)) (o .whole ∙ ap (λ (x : ℕ). x ∷ o .others) (y .0)) ∙ turned-on S (w .state) v (u .0) (o .others) (u .1);
                   held = u .2;
                 }
+
+-- at each turn the table holds a state
+pub turn-held : (s l₀ rows : List ℕ) (p left : ℕ) → Begun s l₀ → Going s (schemaOf s) l₀ rows p left → Held s rows
+turn-held s l₀ rows p left b g =
+    let w = g .left-over (b .base) (b .room) (b .filled) in
+    record { state = w .state; holds = holds (schemaOf s) (w .state) (b .base) rows (b .room) (w .held) }

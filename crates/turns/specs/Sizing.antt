@@ -1,5 +1,5 @@
 -- From an image and the places of a size table to the answer and the table. Refusals 10, 11 and 14.
-use Prim.Native.Nat.{ℕ, _*_}
+use Prim.Native.Nat.{ℕ, _*_, _≤_}
 use mathlib.Core.Path.{_≡_}
 use mathlib.Core.List.{List, []}
 use mathlib.Core.Bool.{cond}
@@ -12,7 +12,7 @@ use Rattle.reader.specs.Reading.{readingOf, schemaOf}
 use Rattle.reader.specs.declared.Reading.{Reading}
 use Rattle.sizes.specs.Sizes.{refusalOf}
 use Rattle.sizes.specs.Names.{State, NamesObey}
-use Rattle.sizes.specs.Check.{Checked, accepted, refused, turn, checkSizes, tableOf}
+use Rattle.sizes.specs.Check.{Checked, accepted, refused, turn, checkSizes, brought, tableOf}
 use Rattle.sizes.specs.Demand.{Demand3}
 use Rattle.table.specs.Fitted.{fitted}
 use Rattle.turns.specs.declared.Sizing.{Sizing}
@@ -61,6 +61,12 @@ pub record SizesSaid (s before after : List ℕ) (r : Sizing) : Type 0 where
   pub answer : (f : Frame) → r ≡ sizingIn (length before) (schemaOf s) (Reading.Accepted f)
   pub table : (f : Frame) → after ≡ fitted (length before) (sizeRowsIn (length before) (schemaOf s) (Reading.Accepted f))
   pub demand : r ≡ Sizing.Accepted → Demand3 (schemaOf s) after
+
+-- the sizes that the image brings stand in the table, before the first turn
+pub record Begun (s rows : List ℕ) : Type 0 where
+  pub base : List ℕ
+  pub room : 3 * length (schemaOf s .slots) ≤ length base
+  pub filled : rows ≡ sets base 0 (tableOf (schemaOf s) (brought (schemaOf s)))
 
 -- a place of the declaration list was passed: the rows hold the sizes stored then, or a number passed the limit
 abbrev pub TurnTaken : Schema → State → (slot : ℕ) → (l after : List ℕ) → Taken → Type 0

@@ -14,7 +14,8 @@ ghost use Rattle.reader.specs.Promise.{Promise};
 ghost use Rattle.sizes.specs.Sizes.{refusalOf};
 ghost use Rattle.sizes.specs.Names.{State};
 ghost use Rattle.sizes.specs.Check.{brought, tableOf};
-ghost use Rattle.turns.specs.Sizing.{Answered, SizesSaid, TurnTaken, Through};
+ghost use Rattle.wiresize.specs.Asked.{Held};
+ghost use Rattle.turns.specs.Sizing.{Answered, SizesSaid, Begun, TurnTaken, Through};
 
 // Accepted, or a refusal, from 1 to 11 or 14, with its place.
 pub enum Sizing {
@@ -46,7 +47,7 @@ fn refusal_of(by: Operation) -> u8
 
 // One place of the declaration list.
 fn take_turn(image: &[u8], starts: &[usize], frame: Frame, rows: &mut [u64], slot: u64) -> Taken
-    requires { ⌜ Promise (now image) (now starts) frame × (3 * frame .slots ≤ length (now rows)) ⌝ }
+    requires { ⌜ Promise (now image) (now starts) frame × (3 * frame .slots ≤ length (now rows)) × Held (now image) (now rows) ⌝ }
     ensures { λ r. ⌜ ((l : List ℕ) (st : State) → 3 * length (schemaOf (now (image .entry)) .slots) ≤ length l → now (rows .entry) ≡ sets l 0 (tableOf (schemaOf (now (image .entry))) st) → TurnTaken (schemaOf (now (image .entry))) st slot l (now (rows .exit)) r) ⌝ }
 {
     if frame.slots <= slot {
@@ -65,7 +66,7 @@ fn take_turn(image: &[u8], starts: &[usize], frame: Frame, rows: &mut [u64], slo
 
 // All places in order, up to the first at which a number passes the limit.
 fn take_turns(image: &[u8], starts: &[usize], frame: Frame, rows: &mut [u64]) -> Passed
-    requires { ⌜ Promise (now image) (now starts) frame × (3 * frame .slots ≤ length (now rows)) ⌝ }
+    requires { ⌜ Promise (now image) (now starts) frame × (3 * frame .slots ≤ length (now rows)) × Begun (now image) (now rows) ⌝ }
     ensures { λ r. ⌜ ((l : List ℕ) → 3 * length (schemaOf (now (image .entry)) .slots) ≤ length l → now (rows .entry) ≡ sets l 0 (tableOf (schemaOf (now (image .entry))) (brought (schemaOf (now (image .entry))))) → Through (schemaOf (now (image .entry))) l (now (rows .exit)) r) ⌝ }
 {
     let mut left = frame.declarations;

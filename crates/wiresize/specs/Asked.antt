@@ -52,6 +52,11 @@ pub record Walks {A : Type 0} (g : Grammar A) (size : Resolver → A → Worked)
 pub record Names (s rows : List ℕ) (w : List Bool) (id : ℕ) (r : Worked) : Type 0 where
   pub worked : (st : State) → RowsHold (schemaOf s) st rows → r ≡ resolver s st w id
 
+-- the table holds the sizes of some state: what it holds of messages and unions is all that a size depends on
+pub record Held (s rows : List ℕ) : Type 0 where
+  pub state : State
+  pub holds : RowsHold (schemaOf s) state rows
+
 -- what a turn answers
 abbrev pub turnOf : Turned → Option Worked
 turnOf (Turned.Sized s) = some (Sized s)

@@ -24,7 +24,7 @@ ghost use Rattle.reader.specs.Promise.{Promise};
 ghost use Rattle.sizes.specs.Sizes.{typeSize, fieldSize, fieldsSize, unionSize, varintEnd, zigZagEnd};
 ghost use Rattle.wiresize.specs.Steps.{codedAs, kindIn, numberIn, Passed, Decides, Coding, Settles, Wraps, Results, Arrays, Closes, variantsAt, turnedAs};
 ghost use Rattle.wiresize.specs.Rows.{rowAt};
-ghost use Rattle.wiresize.specs.Asked.{Asked, Ready, Walks, WorksOut, Names, Owns};
+ghost use Rattle.wiresize.specs.Asked.{Asked, Ready, Walks, WorksOut, Names, Held, Owns};
 
 // A size that was worked out, and the position after its type.
 pub struct Walked {
@@ -529,7 +529,7 @@ fn turn_from(worked: Worked) -> Turned
 
 // A declared slot at its turn, itself being worked out.
 pub fn own_size(image: &[u8], starts: &[usize], frame: Frame, rows: &[u64], slot: usize) -> Turned
-    requires { ⌜ Promise (now image) (now starts) frame × (slot < frame .slots) × (3 * frame .slots ≤ length (now rows)) ⌝ }
+    requires { ⌜ Promise (now image) (now starts) frame × (slot < frame .slots) × (3 * frame .slots ≤ length (now rows)) × Held (now image) (now rows) ⌝ }
     ensures { λ r. ⌜ Owns (now (image .entry)) (now (rows .entry)) slot r ⌝ }
 {
     let Part::At(kind, body) = view::slot_part(image, starts, slot) else {

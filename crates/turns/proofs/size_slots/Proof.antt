@@ -13,7 +13,11 @@ size-slots-spec =
     (λ c. search needs)
     (λ c. few-places _ _ _ (omega (arith, c .before .before .before .before .before .before .before .before .before .pre .count, c .if1 .taken)) (c .before .before .before .before .clear .ensures))
     (λ c κs. search needs)
-    (λ c κs. search needs)
+    (λ c κs.
+    let filled = c .before .before .before in
+    let tested = filled .before .before in
+    let pre = tested .before .before .before .before .before .before .before .before .before .pre in
+    (pre, omega (arith, tested .if1 .left), record { base = _; room = omega (arith, pre .count, tested .if1 .left); filled = filled .fill-rows .ensures }))
     (λ c. search needs)
     (λ c. search needs)
     (λ c κs. search needs)

@@ -8,7 +8,7 @@ returns : tie.Need-returns
 returns c = λ l st h e. beyond _ _ _ _ _ h e (omega (arith, c .before .before .before .before .before .pre .0 .count, c .if1 .taken))
 
 own-size-requires : tie.Need-own-size-requires
-own-size-requires c κs = (c .before .before .before .before .before .before .pre .0, omega arith, c .before .before .before .before .before .before .pre .1)
+own-size-requires c κs = (c .before .before .before .before .before .before .pre .0, omega arith, c .before .before .before .before .before .before .pre .1, c .before .before .before .before .before .before .pre .2)
 
 enum-known-size : tie.Need-enum-known-size
 enum-known-size c = search needs

@@ -3,7 +3,7 @@ use borrow.Author.Needs.{needs}
 use native.Mathlib.Omega.{arith}
 use Rattle.number.proofs.Reading.{told}
 use Rattle.reader.specs.Reading.{schemaOf}
-use Rattle.turns.proofs.Turning.{Going, first-turn, last-turn, stop-turn, over-turn, next-turn}
+use Rattle.turns.proofs.Turning.{Going, turn-held, first-turn, last-turn, stop-turn, over-turn, next-turn}
 use Rattle.turns.proofs.take_turns.Statement.{statement}
 use Rattle.turns.proofs.take_turns.Tie as tie
 
@@ -23,7 +23,10 @@ enum-known-slot : tie.Need-enum-known-slot Inv-loop μ-loop
 enum-known-slot c = search needs
 
 take-turn-requires : tie.Need-take-turn-requires Inv-loop μ-loop
-take-turn-requires c κs = (c .before .before .before .before .before .before .before .before .before .before .pre .0, omega (arith, c .before .before .before .before .before .before .before .before .before .before .pre .1, c .before .before .before .before .before .before .loop .inv .long))
+take-turn-requires c κs =
+    let turn = c .before .before .before .before .before .before in
+    let pre = turn .before .before .before .before .pre in
+    (pre .0, omega (arith, pre .1, turn .loop .inv .long), turn-held _ _ _ _ _ (pre .2) (turn .loop .inv))
 
 enum-told : tie.Need-enum-told Inv-loop μ-loop
 enum-told c = search needs
