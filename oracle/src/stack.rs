@@ -6,7 +6,7 @@ use std::process::{Command, Stdio};
 use std::thread;
 
 use crate::answer::PROGRAM_PLACES;
-use crate::generate::deep::{through_again, Chain, Link, Wrapper};
+use crate::generate::deep::{in_no_order, through_again, Chain, Link, Wrapper};
 use crate::import::import;
 use crate::library::Library;
 use crate::model::Schema;
@@ -31,7 +31,7 @@ const SLACK: u64 = 20;
 /// Least KiB of each case by subject, as `stack --measure` prints them. The
 /// figures of the Rust are those of rustc 1.95 and are not held.
 #[rustfmt::skip]
-const RECORDED: [[u64; 4]; 12] = [
+const RECORDED: [[u64; 4]; 13] = [
     [6952, 6952, 1620, 1624], // 512 declared messages, the outermost first
     [6952, 6952, 1620, 1624], // 512 messages, one declared
     [6968, 6968, 1636, 1640], // 512 unions
@@ -41,6 +41,7 @@ const RECORDED: [[u64; 4]; 12] = [
     [6952, 6952, 1620, 1624], // 512 messages, Result
     [6952, 6952, 3108, 3112], // 512 messages, Deltas
     [1012, 1012, 136, 136], // 512 messages, no wrappers
+    [1012, 2752, 136, 136], // 512 messages, no wrappers, no order
     [13568, 13568, 3068, 3068], // 2 messages, newtypes gone through again
     [20320, 20320, 4592, 4592], // 3 messages, newtypes gone through again
     [27040, 27040, 6112, 6112], // 4 messages, newtypes gone through again
@@ -107,6 +108,7 @@ pub fn cases() -> Vec<Case> {
         ..messages
     };
     cases.push(("512 messages, no wrappers".into(), bare.below_one()));
+    cases.push(("512 messages, no wrappers, no order".into(), in_no_order()));
     for messages in [2, 3, 4] {
         let name = format!("{messages} messages, newtypes gone through again");
         cases.push((name, through_again(messages)));

@@ -3,7 +3,7 @@
 use oracle::answer::{Answer, Whole, PROGRAM_PLACES};
 use oracle::bench::cases::cases;
 use oracle::format::IMAGE_LIMIT;
-use oracle::generate::deep::{through_again, Chain, Link, Wrapper};
+use oracle::generate::deep::{in_no_order, through_again, Chain, Link, Wrapper};
 use oracle::workers::on_long_stack;
 
 fn deepest(link: Link, wrapper: Wrapper) -> u64 {
@@ -44,6 +44,13 @@ fn newtypes_are_gone_through_again() {
         assert_eq!(whole.finding_places(), Some(0));
         assert!(whole.deepest > messages * (512 - messages) * 32 - 32);
     }
+}
+
+#[test]
+fn messages_in_no_order_are_all_gone_through() {
+    let whole = on_long_stack(|| Whole::of(&in_no_order().bytes()));
+    assert_eq!(whole.finding_places(), Some(0));
+    assert!(whole.deepest >= 2 * 511, "{}", whole.deepest);
 }
 
 #[test]

@@ -125,6 +125,29 @@ pub fn through_again(messages: u64) -> Schema {
     }
 }
 
+/// Messages, each with the next one as its field, that stand in no order of
+/// slots: 0, 511, 1, 510 and so on. Only then the walk for endless types is
+/// made, and it goes through all of them.
+pub fn in_no_order() -> Schema {
+    let place = |at: u64| match at % 2 {
+        0 => at / 2,
+        _ => 511 - at / 2,
+    };
+    let mut slots = vec![Slot::Empty; 512];
+    for at in 0..512 {
+        let next = match at {
+            511 => U8,
+            _ => Tree::Named(place(at + 1)),
+        };
+        slots[place(at) as usize] = message(at, vec![field(0, next)]);
+    }
+    Schema {
+        names: vec![0],
+        slots,
+        declarations: vec![0],
+    }
+}
+
 /// A deep chain; few turns, since each works out what is below it anew.
 pub fn deep(random: &mut Random) -> Schema {
     let chain = Chain {
