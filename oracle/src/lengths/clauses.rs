@@ -13,13 +13,14 @@ use crate::ir::{CompiledSchema, TypeDef, WireSize};
 pub enum Clause {
     /// Every length lies within the row.
     Enclosure,
-    /// Smallest is not above largest.
+    /// Smallest is not above largest, where there is one.
     Order,
     /// Smallest is a length.
     Smallest,
     /// Largest, where there is one, is a length.
     Largest,
-    /// Fixed exactly when every field is, and then their sum; no proviso.
+    /// A message is Fixed exactly when every field is, and then their sum; no
+    /// proviso.
     Fixed,
 }
 
@@ -225,47 +226,41 @@ impl Facts {
         facts
     }
 
-    /// Judges the rows of all declared messages and unions.
+    /// Judges the rows of all declared messages and unions; answers the first
+    /// that breaks a clause.
     pub fn judge(&self, table: &[u64], tally: &mut Tally) -> Option<Violation> {
-        let rows = self.slots.iter().filter_map(|&slot| {
+        let mut first = None;
+        for &slot in &self.slots {
             let row = table.get(3 * slot..3 * slot + 3).unwrap_or_default();
-            match Row::of(row) {
-                Some(size) => self.judge_row(slot, size, tally),
-                None => Some((None, String::new())),
-            }
-            .map(|(clause, told)| Violation {
+            let broken = match Row::of(row) {
+                Some(size) => self.judge_row(slot, size, tally).map(Some),
+                None => Some(None),
+            };
+            let violation = |clause: Option<Clause>| Violation {
                 slot,
                 clause,
                 row: row.to_vec(),
-                told,
-            })
-        });
-        rows.collect::<Vec<_>>().into_iter().next()
+                told: clause.map_or_else(String::new, |clause| self.told(slot, clause)),
+            };
+            first = first.or_else(|| broken.map(violation));
+        }
+        first
     }
 
-    fn judge_row(
-        &self,
-        slot: usize,
-        row: Row,
-        tally: &mut Tally,
-    ) -> Option<(Option<Clause>, String)> {
+    fn judge_row(&self, slot: usize, row: Row, tally: &mut Tally) -> Option<Clause> {
         let mut broken = None;
         let met = self.met(slot);
         for (at, clause) in Clause::ALL.into_iter().enumerate() {
-            let asked = asked(clause).iter();
-            let unmet: Vec<Proviso> = asked
-                .copied()
-                .filter(|&proviso| met[proviso as usize] == Truth::No)
-                .collect();
-            let asked = asked_all(clause, &met);
-            match (asked, self.holds(slot, row, clause)) {
+            let Some(holds) = self.holds(slot, row, clause) else {
+                continue;
+            };
+            let (asked, alone) = asked_of(clause, &met);
+            match (asked, holds) {
                 (Truth::Yes, Truth::Yes) => tally.held[at] += 1,
-                (Truth::Yes, Truth::No) => {
-                    broken = broken.or(Some((Some(clause), self.told(slot, clause))));
-                }
+                (Truth::Yes, Truth::No) => broken = broken.or(Some(clause)),
                 (Truth::No, Truth::Yes) => tally.idle[at] += 1,
                 (Truth::No, Truth::No) => {
-                    if let [proviso] = unmet[..] {
+                    if let Some(proviso) = alone {
                         tally.needed[proviso as usize] += 1;
                     }
                 }
@@ -284,21 +279,21 @@ impl Facts {
         })
     }
 
-    fn holds(&self, slot: usize, row: Row, clause: Clause) -> Truth {
+    /// Nothing where the clause says nothing of such a row.
+    fn holds(&self, slot: usize, row: Row, clause: Clause) -> Option<Truth> {
         let attained = |bits| match self.lengths[slot].has(bits) {
             Some(fact) => fact.into(),
             None => Truth::Unknown,
         };
         match clause {
-            Clause::Enclosure => row.encloses(&self.lengths[slot]),
-            Clause::Order => row.ordered().into(),
-            Clause::Smallest => attained(row.smallest),
-            Clause::Largest => row.largest.map_or(Truth::Yes, attained),
-            Clause::Fixed => match self.last_turns.sums[slot] {
-                None => Truth::Yes,
-                Some(None) => (!row.fixed).into(),
-                Some(Some(bits)) => (row.fixed && u128::from(row.smallest) == bits).into(),
-            },
+            Clause::Enclosure => Some(row.encloses(&self.lengths[slot])),
+            Clause::Order => row.largest.map(|_| row.ordered().into()),
+            Clause::Smallest => Some(attained(row.smallest)),
+            Clause::Largest => row.largest.map(attained),
+            Clause::Fixed => self.last_turns.sums[slot].map(|sum| match sum {
+                None => (!row.fixed).into(),
+                Some(bits) => (row.fixed && u128::from(row.smallest) == bits).into(),
+            }),
         }
     }
 
@@ -322,9 +317,17 @@ fn asked(clause: Clause) -> &'static [Proviso] {
     }
 }
 
-fn asked_all(clause: Clause, met: &[Truth; Proviso::ALL.len()]) -> Truth {
-    let asked = asked(clause).iter();
-    asked.fold(Truth::Yes, |all, &one| all.and(met[one as usize]))
+/// Whether all provisos of a clause are met, and the one that alone is not.
+fn asked_of(clause: Clause, met: &[Truth; Proviso::ALL.len()]) -> (Truth, Option<Proviso>) {
+    let truth = |proviso: &Proviso| met[*proviso as usize];
+    let all = asked(clause).iter().map(truth);
+    let unmet = asked(clause).iter().filter(|one| truth(one) != Truth::Yes);
+    let unmet: Vec<&Proviso> = unmet.collect();
+    let alone = match unmet[..] {
+        [proviso] => Some(*proviso),
+        _ => None,
+    };
+    (all.fold(Truth::Yes, Truth::and), alone)
 }
 
 fn turned(schema: &CompiledSchema) -> Vec<usize> {

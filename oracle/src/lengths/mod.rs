@@ -105,6 +105,8 @@ pub struct Met {
     pub dangling: u64,
     /// Declared messages and unions without a length.
     pub without: u64,
+    /// Declared messages whose fields are all Fixed at their last turn.
+    pub fixed: u64,
     pub kinds: [u64; KINDS],
     pub encodings: [u64; ENCODINGS],
 }
@@ -253,11 +255,11 @@ impl Summary {
 
 /// A clause has to hold, its provisos met, once in so many schemas; in the
 /// order of `Clause::ALL`.
-const HELD: [u64; Clause::ALL.len()] = [2, 2, 3, 3, 1];
+const HELD: [u64; Clause::ALL.len()] = [1, 2, 2, 4, 2];
 /// A proviso has to be needed once in so many, in the order of `Proviso::ALL`.
 const NEEDED: [u64; Proviso::ALL.len()] = [200, 800, 50, 25];
 /// At most one in so many may hang on lengths past the horizon.
-const MOST_PAST: u64 = 200;
+const MOST_PAST: u64 = 100;
 
 impl Met {
     fn count(&mut self, schema: &CompiledSchema, facts: &Facts) {
@@ -281,6 +283,8 @@ impl Met {
         self.without += slots
             .filter(|&&slot| facts.lengths[slot].is_empty())
             .count() as u64;
+        let sums = facts.last_turns.sums.iter();
+        self.fixed += sums.filter(|sum| matches!(sum, Some(Some(_)))).count() as u64;
         self.count_types(schema, facts);
     }
 
@@ -347,6 +351,7 @@ impl Met {
             ("Fixed by the last turn".into(), self.moved, 200),
             ("declare nothing".into(), self.dangling, 10),
             ("without lengths".into(), self.without, 20),
+            ("Fixed messages".into(), self.fixed, 5),
         ];
         for (kind, &count) in self.kinds.iter().enumerate() {
             floors.push((format!("type kind {kind}"), count, 50));
@@ -368,6 +373,7 @@ impl Met {
             (&mut self.moved, other.moved),
             (&mut self.dangling, other.dangling),
             (&mut self.without, other.without),
+            (&mut self.fixed, other.fixed),
         ];
         pairs.into_iter().for_each(|(count, more)| *count += more);
         let kinds = self.kinds.iter_mut().zip(other.kinds);
@@ -447,10 +453,11 @@ impl fmt::Display for Met {
         let Self { schemas, slots, .. } = self;
         write!(
             out,
-            "{schemas}, with {slots} declared messages and unions, {} of them without lengths; \
-             bring sizes {} (trusted {}), lead back {}, declare again {} (Fixed by the last \
+            "{schemas}, with {slots} declared messages and unions, {} of them Fixed, {} without \
+             lengths; bring sizes {} (trusted {}), lead back {}, declare again {} (Fixed by the last \
              turn {}), declare nothing {}; \
              type kinds {:?}, encodings {:?}",
+            self.fixed,
             self.without,
             self.brings,
             self.trusted,

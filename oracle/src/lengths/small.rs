@@ -112,7 +112,6 @@ fn declarations(random: &mut Random, slots: u64) -> Vec<u64> {
 fn slot_of(random: &mut Random, slot: u64, kinds: &[u64]) -> Slot {
     let any: Vec<u64> = (0..=kinds.len() as u64).collect();
     match kinds[slot as usize] {
-        0 => Slot::Empty,
         1 => message(slot, fields(random, &any)),
         2 => Slot::Enum {
             backing: random.below(10).saturating_sub(7),
@@ -137,6 +136,14 @@ fn slot_of(random: &mut Random, slot: u64, kinds: &[u64]) -> Slot {
                 terminal: tree(random, 3, &named),
             }
         }
+        kind => without_size(random, kind),
+    }
+}
+
+/// Slots that have no size of their own, by kind.
+fn without_size(random: &mut Random, kind: u64) -> Slot {
+    match kind {
+        0 => Slot::Empty,
         6 => Slot::Config,
         7 => Slot::Alias {
             parameters: vec![0],
@@ -151,7 +158,7 @@ fn slot_of(random: &mut Random, slot: u64, kinds: &[u64]) -> Slot {
             trait_number: 0,
             trait_span: None,
             arguments: vec![],
-            target: Tree::Named(random.pick(&any)),
+            target: Tree::Named(random.below(NAMES)),
         }),
     }
 }
