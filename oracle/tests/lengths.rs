@@ -10,7 +10,8 @@ use oracle::import::import;
 use oracle::lengths::clauses::{Clause, Facts, Proviso, Tally, Truth, Violation};
 use oracle::lengths::rules::lengths_of_slots;
 use oracle::lengths::set::{Lengths, HORIZON};
-use oracle::lengths::{run, schema, subjects};
+use oracle::lengths::{run, schema, subjects, Broken, Subject, Table};
+use oracle::library::{Library, Sizer, Verdict, REFERENCE};
 use oracle::model::{
     declared, field, fixed, message, pair, union, wrap, Encoding, Field, Schema, Slot, Stored,
     Tree, ARRAY, BOOL, MAP, MAT4, OPTIONAL, RESULT, SET, U32, U8, VEC2, VEC3, VOID,
@@ -396,6 +397,36 @@ fn leading_back_follows_parts() {
     let schema = declared(vec![0], slots);
     let facts = Facts::of(&import(&schema.bytes()).expect("an accepted image").schema);
     assert_eq!(facts.back, [true, true]);
+}
+
+/// The first broken row of a library, in the smallest image found.
+fn broken_by(sizes: Sizer) -> Broken {
+    let library = Library { sizes, ..REFERENCE };
+    let subject = Subject {
+        name: "wrong",
+        table: Table::Sizes(library),
+    };
+    run(400, SEED, &[subject]).broken.expect("it is told")
+}
+
+#[test]
+fn a_wrong_library_is_told_by_a_small_image() {
+    let broken = broken_by(|image, sizes| {
+        let verdict = (REFERENCE.sizes)(image, sizes);
+        let rows = sizes.chunks_mut(3).filter(|row| row[0] == 2);
+        rows.for_each(|row| row[2] = row[2].saturating_sub(1));
+        verdict
+    });
+    assert!(broken.told.contains("against Enclosure"), "{}", broken.told);
+    // One slot, declared: a message of one Optional Bool, or less.
+    assert!(broken.image.len() <= 15, "{:?}", broken.image);
+
+    let broken = broken_by(|_, _| Verdict {
+        number: 10,
+        value: 0,
+    });
+    assert_eq!(broken.told, "an accepted image is refused");
+    assert_eq!(broken.image, [0, 0, 0]);
 }
 
 #[test]
