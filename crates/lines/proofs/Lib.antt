@@ -1,2 +1,6 @@
-pub mod Appending
-pub mod Pieces
+mod Appending
+mod Decimal
+mod Pieces
+pub mod Bound
+pub mod Whole
+pub mod Examples

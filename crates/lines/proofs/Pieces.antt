@@ -11,7 +11,7 @@ use lib.Dec.{eqb}
 use borrow.Author.Tests.{eq-eqb, ne-eqb}
 use mathlib.Core.Bool.{true, false}
 use Rattle.lines.specs.Lines.{numberText, spaced, line, header, sizeWord, foundWord, endWord, refusedWord, allZero, sizeLine, sizeLines, findingAt, foundLines, endLine, refusedText, acceptedText, Holds, Appends}
-use Rattle.lines.specs.Decimal.{decimal-text}
+use Rattle.lines.proofs.Decimal.{decimal-text}
 use Rattle.lines.proofs.Appending.{nothing, then}
 
 -- a number's digits, from the front of an array

@@ -1,5 +1,1 @@
 pub mod Lines
-pub mod Decimal
-pub mod Bound
-pub mod Whole
-pub mod Examples

@@ -1,5 +1,5 @@
 -- The text that the program writes, as ASCII codes.
-use Prim.Native.Nat.{ℕ, zero, suc, _+_, _*_, _/_, min}
+use Prim.Native.Nat.{ℕ, zero, suc, _+_, _*_, _/_, _≤_, min}
 use mathlib.Core.Path.{_≡_}
 use mathlib.Core.Bool.{Bool, cond, _&&_}
 use mathlib.Core.List.{List, [], _∷_, _++_}
@@ -78,6 +78,11 @@ acceptedText s f count = header ++ sizeLines (length s / 3) s ++ foundLines (min
 pub record Holds (places : ℕ) (text out : List ℕ) (used : ℕ) : Type 0 where
   pub content : out ≡ fitted places text
   pub position : used ≡ min places (length text)
+
+-- the same of a text that 180,000 places hold whole
+pub record Written (places : ℕ) (text out : List ℕ) (used : ℕ) : Type 0 where
+  pub holds : Holds places text out used
+  pub most : length text ≤ 180000
 
 -- a text put behind the one that the buffer holds
 pub record Appends (before : List ℕ) (used : ℕ) (new after : List ℕ) (r : ℕ) : Type 0 where

@@ -6,7 +6,7 @@ use mathlib.Core.List.{List, [], _∷_}
 use native.Mathlib.Omega.{arith}
 use lib.ListN.{length, getD, length-append}
 use Rattle.io.specs.Digits.{digits}
-use Rattle.lines.specs.Decimal.{places-most}
+use Rattle.lines.proofs.Decimal.{places-most}
 use Rattle.lines.specs.Lines.{placesBy, numberText, spaced, line, sizeWord, foundWord, endWord, refusedWord, allZero, sizeLine, sizeLines, findingAt, foundLines, endLine, refusedText, acceptedText}
 
 digits-length : (k n : ℕ) → length (digits 10 k n) ≡ k
