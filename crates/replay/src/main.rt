@@ -4,7 +4,7 @@
 use libc::STDOUT_FILENO;
 ghost use Prim.Native.Nat.{_<_, _≤_};
 ghost use lib.ListN.{length};
-ghost use Rattle.replay.specs.Count.{countOf};
+ghost use Rattle.replay.specs.Compared.{countOf, Compared};
 
 // What a file records of an image: how it is read, or the text that is written for it.
 enum Kind {
@@ -139,7 +139,9 @@ fn number_in(text: &[u8]) -> u64 {
     first * 10 + digit(text[24])
 }
 
-fn same_text(image: &[u8], text: &[u8]) -> Outcome {
+fn same_text(image: &[u8], text: &[u8]) -> Outcome
+    ensures { λ r. ⌜ Compared (now (image .entry)) (now (text .entry)) r ⌝ }
+{
     let mut out = [0u8; 180000];
     let used = report::report(image, &mut out);
     if check::same(&out[0..used], text) {

@@ -1,7 +1,8 @@
 -- The text of a verdict, and of an image.
-use Prim.Native.Nat.{ℕ}
+use Prim.Native.Nat.{ℕ, _≤_}
 use mathlib.Core.List.{List}
-use Rattle.lines.specs.Lines.{refusedText, acceptedText}
+use lib.ListN.{length}
+use Rattle.lines.specs.Lines.{refusedText, acceptedText, Holds}
 use Rattle.typeck.specs.Check.{verdictOf, sizeTable, findingTable}
 use Rattle.typeck.specs.declared.Verdict.{Verdict}
 
@@ -12,3 +13,13 @@ textOf (Verdict.Refused number place) s f = refusedText number place
 -- the text for an image, with places for 512 slots and 1,000 findings
 unfoldable pub textFor : List ℕ → List ℕ
 textFor s = textOf (verdictOf 1536 6000 s) (sizeTable 1536 6000 s) (findingTable 1536 6000 s)
+
+-- The contract of an inner function: a verdict's text in a buffer, and its length if there are at most 512 slots and 1,000
+-- findings.
+abbrev pub countOf : Verdict → ℕ
+countOf (Verdict.Accepted count) = count
+countOf (Verdict.Refused number place) = 0
+
+pub record Told (places : ℕ) (v : Verdict) (sizes findings out : List ℕ) (used : ℕ) : Type 0 where
+  pub holds : Holds places (textOf v sizes findings) out used
+  pub most : length sizes ≤ 1536 → countOf v ≤ 1000 → length (textOf v sizes findings) ≤ 180000

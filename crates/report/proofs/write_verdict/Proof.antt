@@ -1,3 +1,5 @@
+use native.Mathlib.Omega.{arith}
+use Rattle.report.proofs.Texts.{accepted-told, refused-told}
 use Rattle.report.specs.Text.{textOf}
 use borrow.Author.Needs.{needs}
 use Rattle.report.proofs.write_verdict.Statement.{statement}
@@ -5,11 +7,19 @@ use Rattle.report.proofs.write_verdict.Tie as tie
 
 returns : tie.Need-returns
 unfolding textOf
-returns c = rw (c .before .before .before .before .before .verdict .given .1) (c .before .before .write-accepted .ensures)
+returns c =
+    let at-told = c .before .before .before .before in
+    let at-start = at-told .before .before .before .before in
+    accepted-told _ _ _ _ _ _ _ (at-told .before .verdict .given .1)
+    (record { at = λ i. omega (arith, at-start .before .shared-slice-known .given i) })
+    (record { at = λ i. omega (arith, at-start .shared-slice-known2 .given i) })
+    (c .before .before .write-accepted .ensures)
 
 returns-2 : tie.Need-returns-2
 unfolding textOf
-returns-2 c = rw (c .before .before .before .before .before .verdict2 .given .1) (c .before .before .write-refused .ensures)
+returns-2 c =
+    let at-told = c .before .before .before .before in
+    refused-told _ _ _ _ _ _ _ _ (at-told .before .verdict2 .given .1) (omega arith) (omega arith) (c .before .before .write-refused .ensures)
 
 pub write-verdict-spec : {M : Type 1} → statement M
 write-verdict-spec =
