@@ -1,7 +1,8 @@
 /* How large must a buffer be that holds every report? Checks a schema image and answers for one slot.
  *
- *     cc -std=c11 -Iinclude examples/check.c target/staticlib/libvexil.a -o check
- *     ./check examples/bond-report.image 2
+ *     rt staticlib vexil
+ *     cc -std=c11 -Iinclude examples/check.c target/staticlib/libvexil.a -o target/check
+ *     target/check examples/bond-report.image 2
  *
  * FILE may be - for standard input. Exit status: 0 there is such a buffer; 1 there is none, or the image is refused or has
  * findings; 2 the command or the file is at fault. */
