@@ -65,9 +65,9 @@ pub fn write_images(selection: Selection, folder: &Path) -> io::Result<()> {
 
 /// Writes each image of a selection; an error if there were more or fewer.
 fn each(selection: Selection, write: &mut dyn FnMut(&[u8]) -> io::Result<()>) -> io::Result<()> {
-    let mut result = Ok(());
     let mut images = 0;
     for worker in 0..THREADS {
+        let mut result = Ok(());
         each_image(selection, worker, |_, image| {
             images += 1;
             result = write(image);
@@ -76,9 +76,7 @@ fn each(selection: Selection, write: &mut dyn FnMut(&[u8]) -> io::Result<()>) ->
                 Err(_) => ControlFlow::Break(()),
             }
         });
-        if result.is_err() {
-            return result;
-        }
+        result?;
     }
     match images == selection.count {
         true => Ok(()),

@@ -155,7 +155,8 @@ impl World {
             }
             Tree::Qualified(name) => self.found(*name),
             Tree::Generic(name, argument) => {
-                let alias = name.checked_sub(self.first + ALIASES);
+                let find = self.finds[*name as usize];
+                let alias = find.checked_sub(self.pushed + FIRST_ALIAS + 1);
                 let alias = alias.and_then(|alias| self.aliases.get(alias as usize));
                 let argument = [part(argument)];
                 let target =
@@ -178,10 +179,11 @@ impl World {
         let parameters: Vec<u64> = (0..random.pick(&[0, 1, 1, 1, 2, 2]))
             .map(|_| self.name(random, PARAMETERS, 3))
             .collect();
-        let own = parameters.first().copied();
-        let name = match own {
-            Some(own) if !random.once_in(4) => own,
-            _ => self.name(random, PARAMETERS, 6),
+        // Only the first parameter has an argument.
+        let name = match random.below(4) {
+            0 => self.name(random, PARAMETERS, 6),
+            1 => parameters.last().copied().unwrap_or(self.first),
+            _ => parameters.first().copied().unwrap_or(self.first),
         };
         let target = match random.below(9) {
             0 => wrap(OPTIONAL, Tree::Named(name)),
@@ -217,13 +219,22 @@ impl World {
                     0 => Tree::Named(self.name(random, PLAIN, 3)),
                     _ => self.expression(random, levels - 1),
                 };
-                generic(self.name(random, ALIASES - 1, 4), argument)
+                generic(self.generic_name(random), argument)
             }
             21.. => Tree::Named(random.pick(&self.parameters)),
             kind => self.of_kind(random, kind, &|world, random| match levels {
                 0 => Tree::Named(world.name(random, PARAMETERS, 6)),
                 _ => world.expression(random, levels - 1),
             }),
+        }
+    }
+
+    /// Mostly an alias; else a name that finds another slot or none, or that is
+    /// a parameter's.
+    fn generic_name(&self, random: &mut Random) -> u64 {
+        match random.below(6) {
+            0 => self.name(random, PARAMETERS, NAMES - PARAMETERS),
+            _ => self.name(random, ALIASES, 3),
         }
     }
 
@@ -255,7 +266,7 @@ impl World {
                 let left = part(self, random);
                 pair(kind, left, part(self, random))
             }
-            3 => Tree::Named(self.name(random, PLAIN, 3)),
+            3 => Tree::Named(self.name(random, PLAIN, 4)),
             16 => {
                 let count = random.below(4);
                 Tree::Bits((0..count).map(|_| random.below(self.near.names)).collect())
@@ -271,7 +282,12 @@ impl World {
             let meaning = self.meaning(tree, &self.parameters, &self.arguments);
             let near = random.pick(&[0, 1, 1, 2, 3]);
             for _ in 0..near {
-                fields.push(field(*name, self.near.near(random, &meaning)));
+                let misread = self.misread(random, tree);
+                let near = match misread != meaning && random.once_in(4) {
+                    true => misread,
+                    false => self.near.near(random, &meaning),
+                };
+                fields.push(field(*name, near));
             }
             match random.below(4) {
                 0 => fields.push(field(random.below(self.near.names), meaning)),
@@ -282,6 +298,13 @@ impl World {
         random.shuffle(&mut fields);
         let encoded = fields.into_iter();
         encoded.map(|field| with_encoding(random, field)).collect()
+    }
+
+    /// What an expression would mean if its names were taken for parameters or
+    /// not, and its generics for the alias or the argument.
+    fn misread(&self, random: &mut Random, tree: &Tree) -> Tree {
+        let tree = misread(random, tree);
+        self.meaning(&tree, &self.parameters, &self.arguments)
     }
 
     /// Mostly the arguments that the first message was made for, at times with
@@ -311,5 +334,23 @@ impl World {
             },
             slots: self.slots,
         }
+    }
+}
+
+fn misread(random: &mut Random, tree: &Tree) -> Tree {
+    match tree {
+        Tree::Named(name) => Tree::Qualified(*name),
+        Tree::Qualified(name) => Tree::Named(*name),
+        Tree::Generic(name, argument) => match random.once_in(2) {
+            true => Tree::Named(*name),
+            false => *argument.clone(),
+        },
+        Tree::Wrap(kind, part) => wrap(*kind, misread(random, part)),
+        Tree::Fixed(part, size) => fixed(misread(random, part), *size),
+        Tree::Pair(kind, left, right) => {
+            let left = misread(random, left);
+            pair(*kind, left, misread(random, right))
+        }
+        leaf => leaf.clone(),
     }
 }
