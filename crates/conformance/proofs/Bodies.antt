@@ -13,8 +13,8 @@ use Rattle.number.proofs.Reading.{read-done, read-number, given, not-done, many
 use Rattle.tree.specs.TreeAt.{noKind}
 use Rattle.slot.specs.Field.{typeAt, Span, spanAt}
 use Rattle.slot.specs.Slot.{traitFieldAt, Trait, traitAt, Impl, implAt, traitSpanAt}
-use Rattle.view.specs.Take.{Takes}
-use Rattle.view.proofs.Taking.{take-on, span-taken}
+use Rattle.view.specs.Take.{placeOf}
+use Rattle.view.proofs.Taking.{placed, Takes, take-on, span-taken}
 use Rattle.findings.specs.Conformance.{spanOr}
 use Rattle.conformance.specs.Parts.{spanOf, SpanIs, ImplIs, TraitIs}
 use Rattle.conformance.specs.declared.TraitSpan.{TraitSpan}
@@ -51,11 +51,6 @@ span-given s at o l (suc zero) n t z a b d e u w p end f =
 span-given s at o l (suc (suc v)) n t z a b d e u w p end f =
     absurd (not-done (no-kind s n) (take-on s at kind 2 _ p end (suc (suc v)) n t (omega arith) f))
 
--- the place after what was passed over
-placed : {A : Type 0} (g : Grammar A) (s : List ℕ) (at : ℕ) {x : A} {end : ℕ} → read g s at ≡ done x end
-    → (y : Next) → y ≡ next (read g s at) → (r : ℕ) → ((n : ℕ) → y ≡ Next.At n → r ≡ n) → r ≡ end
-placed g s at e y q r h = h _ (q ∙ ap next e)
-
 count-few : {A : Type 0} (g : Grammar A) (s : List ℕ) (at : ℕ) (xs : List A) (end k b : ℕ) → Takes s at k b → read (counted g) s at ≡ done xs end → k ≤ 65536
 unfolding counted
 count-few g s at xs end k b w e =
@@ -65,7 +60,7 @@ count-few g s at xs end k b w e =
 
 module _ (s : List ℕ) (names body : ℕ) where
   pub impl-is : (o a l b i d : ℕ) → Takes s body o a → Takes s a l b → Takes s b i d → (p : TraitSpan) → SpanIs s d o l p
-      → (c e : ℕ) → Takes s (p .next) c e → (y : Next) → y ≡ next (read (many c (typeAt names)) s e) → (r : ℕ) → ((n : ℕ) → y ≡ Next.At n → r ≡ n)
+      → (c e : ℕ) → Takes s (p .next) c e → (y : Next) → y ≡ next (read (many c (typeAt names)) s e) → (r : ℕ) → r ≡ placeOf y
       → (x : Impl) (end : ℕ) → read (implAt names) s body ≡ done x end
       → ImplIs names s (record { offset = o; length = l; «trait_id» = i; «trait_offset» = p .offset; «trait_length» = p .length; «type_args» = e; «type_arg_count» = c; «target_type» = r }) x
   unfolding implAt read counted
@@ -87,17 +82,17 @@ module _ (s : List ℕ) (names body : ℕ) where
         argumentsEnd = D .middle;
         arguments = args ∙ ap (λ (z : Impl). done (z .arguments) (D .middle)) (g .0);
         targetEnd = E .middle;
-        target = ap (read (typeAt names) s) (placed (many c (typeAt names)) s e args y q r j) ∙ E .here ∙ ap (λ (z : Impl). done (z .target) (E .middle)) (g .0);
+        target = ap (read (typeAt names) s) (placed j (q ∙ ap next args)) ∙ E .here ∙ ap (λ (z : Impl). done (z .target) (E .middle)) (g .0);
       }
 
-  pub trait-is : (c a : ℕ) → Takes s body c a → (y : Next) → ((role : Role) → y ≡ next (read (many c (number role names)) s a)) → (r : ℕ) → ((n : ℕ) → y ≡ Next.At n → r ≡ n)
+  pub trait-is : (c a : ℕ) → Takes s body c a → (y : Next) → ((role : Role) → y ≡ next (read (many c (number role names)) s a)) → (r : ℕ) → r ≡ placeOf y
       → (k b : ℕ) → Takes s r k b → (t : Trait) (end : ℕ) → read (traitAt names) s body ≡ done t end
       → TraitIs names s (record { «type_params» = body; «type_param_count» = c; fields = b; «field_count» = k }) t
   unfolding traitAt read counted
   trait-is c a t y q r j k b u x end f =
       let A = read-done (counted (number name names)) _ s body x end f in
       let ps = take-on s body count 65537 (λ n. many n (number name names)) (A .first) (A .middle) c a t (omega arith) (A .here) in
-      let z = placed (many c (number name names)) s a ps y (q name) r j in
+      let z = placed j (q name ∙ ap next ps) in
       let B = read-done (counted (traitFieldAt names)) _ s (A .middle) x end (A .rest) in
       let fs = take-on s (A .middle) count 65537 (λ n. many n (traitFieldAt names)) (B .first) (B .middle) k b (rw (← z) u) (omega arith) (B .here) in
       let g = given (B .rest) in

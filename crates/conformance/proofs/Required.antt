@@ -11,14 +11,15 @@ use Rattle.number.specs.Grammar.{name, slot, count, number, many, counted, done
 use Rattle.number.proofs.Reading.{read-done, given, front, many-length}
 use Rattle.table.proofs.Fitting.{zeros-at, written-at}
 use Rattle.tree.specs.Tree.{Tree}
-use Rattle.slot.specs.Field.{Span, fieldAt, fieldsAt, expressionAt}
-use Rattle.slot.specs.Slot.{Message, messageAt, TraitField, traitFieldAt, Impl}
+use Rattle.slot.specs.Field.{Span, fieldAt, expressionAt}
+use Rattle.slot.specs.Slot.{Message, TraitField, traitFieldAt, Impl}
 use Rattle.image.specs.Schema.{Schema}
+use Rattle.image.specs.Finds.{findsAt}
 use Rattle.image.specs.declared.Frame.{Frame}
+use Rattle.image.proofs.Finding.{finds-read}
 use Rattle.reader.specs.Reading.{schemaOf}
 use Rattle.reader.specs.Promise.{Promise}
-use Rattle.view.specs.Take.{Takes}
-use Rattle.view.proofs.Taking.{take-on}
+use Rattle.view.proofs.Taking.{Takes, take-on}
 use Rattle.findings.specs.Finding.{finding}
 use Rattle.findings.specs.Adding.{Adds}
 use Rattle.findings.specs.Meaning.{meaningOf}
@@ -36,11 +37,10 @@ use Rattle.conformance.specs.declared.TraitDef.{TraitDef}
 
 -- what names find, in a table of zeros that it was written into
 pub finds-hold : (s starts : List ℕ) (f : Frame) → Promise s starts f → (table : List ℕ)
-    → ((fs : List ℕ) (n : ℕ) → read (many (f .names) (number slot 513)) s (f .finds) ≡ done fs n → table ≡ sets (replicate 4096 0) 0 fs)
-    → FindsHold s table
+    → table ≡ sets (replicate 4096 0) 0 (findsAt (f .names) s (f .finds)) → FindsHold s table
 finds-hold s starts f p table h =
     let few : length (schemaOf s .finds) ≤ 4096 = omega (arith, p .fewNames, many-length (number slot 513) s (f .names) (f .finds) (schemaOf s .finds) (p .findsEnd) (p .finds)) in
-    record { entry = λ n. ap (λ (l : List ℕ). getD l n 0) (h (schemaOf s .finds) (p .findsEnd) (p .finds)) ∙ written-at 4096 (schemaOf s .finds) few n }
+    record { entry = λ n. ap (λ (l : List ℕ). getD l n 0) (h ∙ ap (λ (fs : List ℕ). sets (replicate 4096 0) 0 fs) (finds-read (f .names) s (f .finds) (schemaOf s .finds) (p .findsEnd) (p .finds))) ∙ written-at 4096 (schemaOf s .finds) few n }
 
 -- no name was looked up
 pub none-known : (names : ℕ) (s ps : List ℕ) (ts : List Tree) → Sound names s ps ts (replicate 4096 0)
@@ -66,9 +66,9 @@ field-parts s names p x m l e v n t =
 pub own-is : {names : ℕ} {s : List ℕ} {d : ImplDef} {x : Impl} → ImplIs names s d x → (c i k : ℕ) → ownFinding c i d k ≡ finding c i (x .span) k 0
 own-is e c i k = ap (λ (p : Span). finding c i p k 0) (e .span)
 
-module _ (s starts : List ℕ) (f : Frame) (d : ImplDef) (e : TraitDef) (slot body held : ℕ) where
+module _ (s starts : List ℕ) (f : Frame) (d : ImplDef) (e : TraitDef) (slot place held : ℕ) where
   -- k fields were passed; the others stand at p
-  pub record Going (x : Targeted s starts f d e body held) (before now places : List ℕ) (n p k : ℕ) : Type 0 where
+  pub record Going (x : Targeted s starts f d e place held) (before now places : List ℕ) (n p k : ℕ) : Type 0 where
     pub low : k ≤ e .«field_count»
     pub sound : Sound (f .names) s (x .paired .trait .parameters) (x .paired .impl .arguments) places
     pub left : List TraitField
@@ -78,7 +78,7 @@ module _ (s starts : List ℕ) (f : Frame) (d : ImplDef) (e : TraitDef) (slot bo
     pub whole : lacking (schemaOf s) slot (x .paired .impl) (x .paired .trait .parameters) (x .message) 0 (x .paired .trait .fields)
         ≡ added ++ lacking (schemaOf s) slot (x .paired .impl) (x .paired .trait .parameters) (x .message) k left
 
-  pub at-start : (x : Targeted s starts f d e body held) (t : List ℕ) → Going x t t (replicate 4096 0) held (e .fields) 0
+  pub at-start : (x : Targeted s starts f d e place held) (t : List ℕ) → Going x t t (replicate 4096 0) held (e .fields) 0
   at-start x t =
       let z : e .«field_count» - 0 ≡ e .«field_count» = omega arith in
       record {
@@ -91,7 +91,7 @@ module _ (s starts : List ℕ) (f : Frame) (d : ImplDef) (e : TraitDef) (slot bo
         whole = refl;
       }
 
-  pub at-end : (x : Targeted s starts f d e body held) (before now places : List ℕ) (n p k : ℕ) → Going x before now places n p k → e .«field_count» ≤ k
+  pub at-end : (x : Targeted s starts f d e place held) (before now places : List ℕ) (n p k : ℕ) → Going x before now places n p k → e .«field_count» ≤ k
       → Adds 65536 before now held n (lacking (schemaOf s) slot (x .paired .impl) (x .paired .trait .parameters) (x .message) 0 (x .paired .trait .fields))
   unfolding many read lacking
   at-end x before now places n p k g h =
@@ -102,7 +102,7 @@ module _ (s starts : List ℕ) (f : Frame) (d : ImplDef) (e : TraitDef) (slot bo
       (g .adds)
 
   -- the names of an expression are looked up among the trait's parameters
-  abbrev looks : (x : Targeted s starts f d e body held) (at : ℕ) (u : Tree) (end : ℕ) → read (expressionAt (f .names)) s at ≡ done u end
+  abbrev looks : (x : Targeted s starts f d e place held) (at : ℕ) (u : Tree) (end : ℕ) → read (expressionAt (f .names)) s at ≡ done u end
       → LookAsked (f .names) 32 s at (e .«type_params») (d .«type_args») (d .«type_arg_count»)
   looks x at u end q =
       record {
@@ -122,7 +122,7 @@ module _ (s starts : List ℕ) (f : Frame) (d : ImplDef) (e : TraitDef) (slot bo
 
   module _ (before now places : List ℕ) (n p k : ℕ) (h : k < e .«field_count») (v at : ℕ) (t : Takes s p v at) where
     -- the field that comes next
-    record Next (x : Targeted s starts f d e body held) (g : Going x before now places n p k) : Type 0 where
+    record Next (x : Targeted s starts f d e place held) (g : Going x before now places n p k) : Type 0 where
       field : TraitField
       others : List TraitField
       end : ℕ
@@ -131,26 +131,26 @@ module _ (s starts : List ℕ) (f : Frame) (d : ImplDef) (e : TraitDef) (slot bo
       rest : read (many (e .«field_count» - (k + 1)) (traitFieldAt (f .names))) s end ≡ done others (x .paired .traitIs .fieldsEnd)
       leftIs : g .left ≡ field ∷ others
 
-    next-field : (x : Targeted s starts f d e body held) (g : Going x before now places n p k) → Next x g
+    next-field : (x : Targeted s starts f d e place held) (g : Going x before now places n p k) → Next x g
     next-field x g =
         let z : e .«field_count» - k ≡ suc (e .«field_count» - (k + 1)) = omega arith in
         let a = front (traitFieldAt (f .names)) s (e .«field_count» - (k + 1)) p (g .left) (x .paired .traitIs .fieldsEnd) (rw z at (g .leftRead)) in
         let b = field-parts s (f .names) p (a .first) (a .middle) (omega (arith, x .paired .promise .fewNames)) (a .here) v at t in
         record { field = a .first; others = a .others; end = a .middle; nameIs = b .0; typeRead = b .1; rest = a .rest; leftIs = a .whole }
 
-    pub look-asked : (x : Targeted s starts f d e body held) → Going x before now places n p k → LookAsked (f .names) 32 s at (e .«type_params») (d .«type_args») (d .«type_arg_count»)
+    pub look-asked : (x : Targeted s starts f d e place held) → Going x before now places n p k → LookAsked (f .names) 32 s at (e .«type_params») (d .«type_args») (d .«type_arg_count»)
     look-asked x g = let a = next-field x g in looks x at (a .field .type) (a .end) (a .typeRead)
 
   module _ (before now places : List ℕ) (n p k : ℕ) (h : k < e .«field_count») (long : length places ≡ 4096) (v at : ℕ) (t : Takes s p v at)
       (after : List ℕ) (looked next : ℕ) (l : RightLook (f .names) 32 s at (e .«type_params») (d .«type_args») (d .«type_arg_count») places after looked next) where
     -- the same, once its names were looked up
-    record First (x : Targeted s starts f d e body held) (g : Going x before now places n p k) : Type 0 where
+    record First (x : Targeted s starts f d e place held) (g : Going x before now places n p k) : Type 0 where
       own : Next before now places n p k h v at t x g
       rest : read (many (e .«field_count» - (k + 1)) (traitFieldAt (f .names))) s next ≡ done (own .others) (x .paired .traitIs .fieldsEnd)
       sound : Sound (f .names) s (x .paired .trait .parameters) (x .paired .impl .arguments) after
       known : AtNames (Known after) (own .field .type)
 
-    first : (x : Targeted s starts f d e body held) (g : Going x before now places n p k) → First x g
+    first : (x : Targeted s starts f d e place held) (g : Going x before now places n p k) → First x g
     first x g =
         let P = x .paired .promise in
         let a = next-field before now places n p k h v at t x g in
@@ -164,14 +164,12 @@ module _ (s starts : List ℕ) (f : Frame) (d : ImplDef) (e : TraitDef) (slot bo
           known = noted .known;
         }
 
-    module _ (finds : List ℕ) (hold : FindsHold s finds) (place c m : ℕ)
-        (stand : (names : ℕ) (y : Message) (end : ℕ) → read (messageAt names) s body ≡ done y end → read (fieldsAt names) s place ≡ done (y .fields) end)
-        (u : Takes s place c m) where
-      fields-read : (x : Targeted s starts f d e body held) → read (many c (fieldAt (f .names))) s m ≡ done (x .message .fields) (x .end)
+    module _ (finds : List ℕ) (hold : FindsHold s finds) (c m : ℕ) (u : Takes s place c m) where
+      fields-read : (x : Targeted s starts f d e place held) → read (many c (fieldAt (f .names))) s m ≡ done (x .message .fields) (x .end)
       unfolding counted
-      fields-read x = take-on s place count 65537 (λ j. many j (fieldAt (f .names))) (x .message .fields) (x .end) c m u (omega arith) (stand (f .names) (x .message) (x .end) (x .reads))
+      fields-read x = take-on s place count 65537 (λ j. many j (fieldAt (f .names))) (x .message .fields) (x .end) c m u (omega arith) (x .reads)
 
-      pub search-asked : (x : Targeted s starts f d e body held) → Going x before now places n p k → SearchAsked s starts f finds after m c at
+      pub search-asked : (x : Targeted s starts f d e place held) → Going x before now places n p k → SearchAsked s starts f finds after m c at
       search-asked x g =
           let a = first x g in
           record {
@@ -193,7 +191,7 @@ module _ (s starts : List ℕ) (f : Frame) (d : ImplDef) (e : TraitDef) (slot bo
       -- whether it is there
       pub going-on : (found : Bool) → HasField (f .names) s after m c v at found
           → (y : Finding) → y ≡ ownFinding 4 slot d k → (table : List ℕ) (r : ℕ) → Adds 1 now table n r (cond found [] (y ∷ []))
-          → (x : Targeted s starts f d e body held) → Going x before now places n p k → Going x before table after r next (k + 1)
+          → (x : Targeted s starts f d e place held) → Going x before now places n p k → Going x before table after r next (k + 1)
       going-on found w y own table r add x g =
           let a = first x g in
           let S = schemaOf s in

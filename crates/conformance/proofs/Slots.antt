@@ -14,7 +14,8 @@ use Rattle.image.specs.declared.Frame.{Frame}
 use Rattle.reader.specs.Reading.{schemaOf}
 use Rattle.view.specs.Part.{partAt}
 use Rattle.view.specs.declared.Part.{Part}
-use Rattle.view.proofs.Fetching.{Behind, part-behind, not-missing, body-at}
+use Rattle.view.proofs.Fetching.{Behind, body-at}
+use Rattle.reader.proofs.Fetching.{part-behind, not-missing}
 use Rattle.findings.specs.Adding.{Adds}
 use Rattle.findings.specs.Meaning.{slotFound}
 use Rattle.findings.specs.Conformance.{conforming, onTrait, implFindings, conformanceOf}

@@ -18,8 +18,11 @@ use Rattle.image.specs.declared.Frame.{Frame}
 use Rattle.reader.specs.Reading.{schemaOf}
 use Rattle.reader.specs.Promise.{Promise}
 use Rattle.view.specs.Part.{partAt}
+use Rattle.view.specs.Inside.{insideAt}
 use Rattle.view.specs.declared.Part.{Part}
-use Rattle.view.proofs.Fetching.{Behind, part-behind, not-missing, body-at}
+use Rattle.view.proofs.Fetching.{Behind, body-at}
+use Rattle.view.proofs.Insides.{fields-inside}
+use Rattle.reader.proofs.Fetching.{part-behind, not-missing}
 use Rattle.findings.specs.Finding.{finding}
 use Rattle.findings.specs.Adding.{Adds}
 use Rattle.findings.specs.Conformance.{onTarget, onValue, spanOr, lacking, conforming, onTrait, implFindings}
@@ -120,14 +123,14 @@ module _ (s starts : List ℕ) (f : Frame) (d : ImplDef) (e : TraitDef) (slot he
           unfolding slotBodyAt
           held-message k a = made-of s message (messageAt (f .names)) body _ _ (body-at (behind a) 1 k)
 
-          pub targeted : kind ≡ 1 → Paired s starts f d e held → Targeted s starts f d e body held
-          targeted k a = let m = held-message k a in record { paired = a; message = m .held; end = behind a .end; reads = m .reads }
+          pub targeted : kind ≡ 1 → (place : ℕ) → place ≡ insideAt s starts j → Paired s starts f d e held → Targeted s starts f d e place held
+          targeted k place i a = let m = held-message k a in record { paired = a; message = m .held; end = behind a .end; reads = fields-inside s starts j p i k (f .names) (m .held) (behind a .end) (m .reads) }
 
-          pub required : (k : kind ≡ 1) (t u : List ℕ) (r : ℕ)
-              → ((b : Targeted s starts f d e body held) → Adds 65536 t u held r (lacking (schemaOf s) slot (b .paired .impl) (b .paired .trait .parameters) (b .message) 0 (b .paired .trait .fields)))
+          pub required : (k : kind ≡ 1) (place : ℕ) → place ≡ insideAt s starts j → (t u : List ℕ) (r : ℕ)
+              → ((b : Targeted s starts f d e place held) → Adds 65536 t u held r (lacking (schemaOf s) slot (b .paired .impl) (b .paired .trait .parameters) (b .message) 0 (b .paired .trait .fields)))
               → (a : Paired s starts f d e held) → Adds 65536 t u held r (targetFindings (schemaOf s) slot (a .impl) (a .trait))
           unfolding targeted
-          required k t u r h a = adds-same 65536 (omega arith) (by-slot a _ (held-message k a .slotIs)) (h (targeted k a))
+          required k place i t u r h a = adds-same 65536 (omega arith) (by-slot a _ (held-message k a .slotIs)) (h (targeted k place i a))
 
           pub wrong-kind : (kind ≡ 0 → ⊥) → (kind ≡ 1 → ⊥) → (y : Finding) → y ≡ ownFinding 3 slot d 0 → (t u : List ℕ) (r : ℕ) → Adds 1 t u held r (cond false [] (y ∷ []))
               → (a : Paired s starts f d e held) → Adds 65536 t u held r (targetFindings (schemaOf s) slot (a .impl) (a .trait))

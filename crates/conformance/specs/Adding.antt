@@ -4,7 +4,8 @@ use mathlib.Core.Path.{_≡_}
 use mathlib.Core.List.{List}
 use lib.ListN.{length}
 use Rattle.number.specs.Grammar.{done, read}
-use Rattle.slot.specs.Slot.{Message, messageAt, Trait, Impl}
+use Rattle.slot.specs.Field.{fieldsAt}
+use Rattle.slot.specs.Slot.{Message, Trait, Impl}
 use Rattle.image.specs.Schema.{Schema, slotOf}
 use Rattle.image.specs.declared.Frame.{Frame}
 use Rattle.reader.specs.Promise.{Promise}
@@ -41,9 +42,9 @@ pub record Paired (s starts : List ℕ) (f : Frame) (d : ImplDef) (e : TraitDef)
   pub trait : Trait
   pub traitIs : TraitIs (f .names) s e trait
 
--- and the message that the impl is for
-pub record Targeted (s starts : List ℕ) (f : Frame) (d : ImplDef) (e : TraitDef) (body count : ℕ) : Type 0 where
+-- and the message that the impl is for, whose fields stand at `place`
+pub record Targeted (s starts : List ℕ) (f : Frame) (d : ImplDef) (e : TraitDef) (place count : ℕ) : Type 0 where
   pub paired : Paired s starts f d e count
   pub message : Message
   pub end : ℕ
-  pub reads : read (messageAt (f .names)) s body ≡ done message end
+  pub reads : read (fieldsAt (f .names)) s place ≡ done (message .fields) end

@@ -142,7 +142,7 @@ fn own_finding(class: u32, slot: u32, impl_def: ImplDef, a: u32) -> Finding
     }
 }
 
-// The fields that the trait requires of a message whose body stands at `body`. What names find is read here and not
+// The fields that the trait requires of a message whose fields stand at `place`. What names find is read here and not
 // before: few images have an impl that comes so far.
 fn check_required_fields(
     image: &[u8],
@@ -151,17 +151,17 @@ fn check_required_fields(
     slot: u32,
     impl_def: ImplDef,
     trait_def: TraitDef,
-    body: usize,
+    place: usize,
     findings: &mut [u32],
     count: u64,
 ) -> u64
-    requires { ⌜ Targeted (now image) (now starts) frame «impl_def» «trait_def» body count ⌝ }
-    ensures { λ r. ⌜ ((a : Targeted (now (image .entry)) (now (starts .entry)) frame «impl_def» «trait_def» body count) → Adds 65536 (now (findings .entry)) (now (findings .exit)) count r (lacking (schemaOf (now (image .entry))) slot (a .paired .impl) (a .paired .trait .parameters) (a .message) 0 (a .paired .trait .fields))) ⌝ }
+    requires { ⌜ Targeted (now image) (now starts) frame «impl_def» «trait_def» place count ⌝ }
+    ensures { λ r. ⌜ ((a : Targeted (now (image .entry)) (now (starts .entry)) frame «impl_def» «trait_def» place count) → Adds 65536 (now (findings .entry)) (now (findings .exit)) count r (lacking (schemaOf (now (image .entry))) slot (a .paired .impl) (a .paired .trait .parameters) (a .message) 0 (a .paired .trait .fields))) ⌝ }
 {
     let mut finds = [0u16; 4096];
     image::read_finds(image, frame.finds, frame.names, &mut finds);
     let mut places = [0u32; 4096];
-    let fields = view::take(image, view::fields_place(image, body));
+    let fields = view::take(image, place);
     let mut n = count;
     let mut p = trait_def.fields;
     let mut k: u32 = 0;
@@ -215,7 +215,7 @@ fn check_trait_fields(
                 return count;
             }
             match view::slot_part(image, starts, target as usize) {
-                Part::At(kind, body) => match kind {
+                Part::At(kind, _) => match kind {
                     0 => count,
                     1 => check_required_fields(
                         image,
@@ -224,7 +224,7 @@ fn check_trait_fields(
                         slot,
                         impl_def,
                         trait_def,
-                        body,
+                        view::slot_inside(image, starts, target as usize),
                         findings,
                         count,
                     ),

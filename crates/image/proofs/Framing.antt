@@ -204,6 +204,7 @@ module _ (s : List ℕ) where
 
 -- the parts of a front that was read
 pub record FrontParts (s : List ℕ) (f : Front) : Type 0 where
+  pub namesRead : below 4097 s 0 ≡ done (f .names) (f .findsPlace)
   pub fewNames : f .names ≤ 4096
   pub findsEnd : ℕ
   pub findsRead : read (many (f .names) (number slot 513)) s (f .findsPlace) ≡ done (f .finds) findsEnd
@@ -213,13 +214,12 @@ pub front-parts : (s : List ℕ) (f : Front) (n : ℕ) → read frontAt s 0 ≡ 
 unfolding frontAt read _>>=_
 front-parts s f n e =
     let a = read-done (number count 4097) (λ m. _>>=_ here (λ q. _>>=_ (many m (number slot 513)) (λ fs. _>>=_ (number count 513) (λ c. give (frontWith m q fs c))))) s 0 f n e in
-    let u = below-is s 0 4097 (a .first) (a .middle) (sym (read-number count 4097 s 0) ∙ a .here) .under in
-    after (a .first) (a .middle) u (a .rest)
+    after (a .first) (a .middle) (sym (read-number count 4097 s 0) ∙ a .here) (a .rest)
   where
-    make : (m p : ℕ) (fs : List ℕ) (k c : ℕ) → m < 4097 → c < 513 → read (many m (number slot 513)) s p ≡ done fs k → frontWith m p fs c ≡ f → FrontParts s f
-    make m p fs k c u v r e = rw (← e) (record { fewNames = omega arith; findsEnd = k; findsRead = r; fewSlots = omega arith })
+    make : (m p : ℕ) (fs : List ℕ) (k c : ℕ) → below 4097 s 0 ≡ done m p → c < 513 → read (many m (number slot 513)) s p ≡ done fs k → frontWith m p fs c ≡ f → FrontParts s f
+    make m p fs k c w v r e = rw (← e) (record { namesRead = w; fewNames = omega (arith, below-is s 0 4097 m p w .under); findsEnd = k; findsRead = r; fewSlots = omega arith })
 
-    after : (m p : ℕ) → m < 4097 → read (_>>=_ here (λ q. _>>=_ (many m (number slot 513)) (λ fs. _>>=_ (number count 513) (λ c. give (frontWith m q fs c))))) s p ≡ done f n → FrontParts s f
+    after : (m p : ℕ) → below 4097 s 0 ≡ done m p → read (_>>=_ here (λ q. _>>=_ (many m (number slot 513)) (λ fs. _>>=_ (number count 513) (λ c. give (frontWith m q fs c))))) s p ≡ done f n → FrontParts s f
     after m p u r =
         let b = read-done (many m (number slot 513)) (λ fs. _>>=_ (number count 513) (λ c. give (frontWith m p fs c))) s p f n r in
         let d = read-done (number count 513) (λ c. give (frontWith m p (b .first) c)) s (b .middle) f n (b .rest) in

@@ -6,8 +6,9 @@ ghost use mathlib.Core.List.{List};
 ghost use Prim.Native.Nat.{ℕ};
 ghost use lib.ListN.{set};
 ghost use lib.Seq.{sets};
-ghost use Rattle.number.specs.Grammar.{slot, number, many, done, read};
+ghost use Rattle.number.specs.Grammar.{many, done, read};
 ghost use Rattle.number.specs.Answers.{next};
+ghost use Rattle.image.specs.Finds.{findsAt};
 ghost use Rattle.image.specs.Image.{Placed, placedAt, startsOf, readable, readableSlots, frontAt, declaredAt, frontWith, endAt, whole, imageOf, framed, fronted, ended};
 
 // Where the parts of an image stand: how many names, and the position of what they find; how many slots; how many
@@ -148,9 +149,9 @@ fn note_find(finds: &mut [u16], i: u64, find: u16)
     }
 }
 
-// What each name of an accepted image finds, written into a table as far as it reaches.
+// What each of so many names finds, written into a table as far as it reaches; where one does not read, those before it.
 pub fn read_finds(image: &[u8], at: usize, count: u64, finds: &mut [u16])
-    ensures { λ _. ⌜ ((fs : List ℕ) (n : ℕ) → read (many count (number slot 513)) (now (image .entry)) at ≡ done fs n → now (finds .exit) ≡ sets (now (finds .entry)) 0 fs) ⌝ }
+    ensures { λ _. ⌜ now (finds .exit) ≡ sets (now (finds .entry)) 0 (findsAt count (now (image .entry)) at) ⌝ }
 {
     let mut p = at;
     let mut i: u64 = 0;

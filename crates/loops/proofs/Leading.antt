@@ -2,26 +2,23 @@
 use Prim.Native.Nat.{ℕ, zero, suc, _+_, _≤_, _<_}
 use mathlib.Core.Path.{_≡_, refl, sym, ap, _∙_}
 use mathlib.Core.List.{List}
-use mathlib.Core.Bool.{true, false, and-false}
+use mathlib.Core.Bool.{Bool, true, false, and-false}
 use mathlib.Core.Logic.{by-cases}
 use native.Mathlib.Numerals.{add-one}
 use native.Mathlib.Omega.{arith}
 use native.Mathlib.Decide.{decLt, ℕ-discrete}
-use borrow.Author.Tests.{eq-eqb, ne-eqb}
-use lib.ListN.{getD}
-use Rattle.number.specs.Grammar.{done, below}
-use Rattle.number.proofs.Reading.{given}
+use borrow.Author.Tests.{eq-eqb, ne-eqb, eqb-true}
+use lib.Dec.{eqb}
 use Rattle.tree.specs.declared.Sort.{Sort}
 use Rattle.slot.specs.Slot.{Slot, empty, slotKind}
-use Rattle.slot.proofs.Whole.{slot-parts}
+use Rattle.view.specs.Part.{partAt}
 use Rattle.graph.specs.Ways.{Path, step, onto, has}
 use Rattle.graph.specs.Loops.{not-both}
 use Rattle.graph.specs.declared.Lowest.{Lowest}
 use Rattle.loops.specs.Leads.{slotLeads, leads, loopOf, slotsOf, Located}
-use Rattle.loops.specs.Marks.{leadKind, noneLeads, Leading}
+use Rattle.loops.specs.Marks.{leadKind, partLeads, noneLeads}
 use Rattle.loops.specs.Refusals.{is-not-looped}
-use Rattle.loops.specs.declared.Body.{Body}
-use Rattle.loops.proofs.Filling.{done-as, other-kind, slot-is}
+use Rattle.loops.proofs.Filling.{lead-kind, other-kind, slot-is}
 
 module _ (sort : Sort) (slots : ℕ → Slot) where
   pub none-first : noneLeads sort slots 0 ≡ true
@@ -57,16 +54,15 @@ module _ (sort : Sort) (slots : ℕ → Slot) where
     nothing-looped = is-not-looped sort finds slots count past (λ j r. no-path r)
 
 -- the slots of an image, one by one
-module _ (sort : Sort) (names count : ℕ) (s starts : List ℕ) (p : Located names count s starts) (i : ℕ) (l : i < count) where
-  kind-at : (body : ℕ) × (below 10 s (getD starts i 0) ≡ done (slotKind (slotsOf names count s starts i)) body)
+module _ (sort : Sort) (names count : ℕ) (s starts : List ℕ) (p : Located names count s starts) (i : ℕ) (l : i < count) (b : Bool) (q : b ≡ partLeads sort (partAt s starts i)) where
+  kind-at : b ≡ eqb (slotKind (slotsOf names count s starts i)) (leadKind sort)
   kind-at =
-      let q = p .reads i l in
-      let k = slot-parts s names (getD starts i 0) (q .0) (q .1) (q .2) in
-      (k .body, done-as (k .kindRead) (ap slotKind (sym (slot-is names count s starts i l (q .0) (q .1) (q .2)))) refl)
+      let r = p .reads i l in
+      lead-kind names s starts i (p .named) (omega (arith, p .room)) (r .0) (r .1) (r .2) sort b q
+      ∙ ap (λ (x : Slot). eqb (slotKind x) (leadKind sort)) (sym (slot-is names count s starts i l (r .0) (r .1) (r .2)))
 
-  pub passed : noneLeads sort (slotsOf names count s starts) i ≡ true → Leading sort s (getD starts i 0) Body.Nothing
-      → noneLeads sort (slotsOf names count s starts) (i + 1) ≡ true
-  passed e h = none-next sort (slotsOf names count s starts) i e (λ q. h (kind-at .0) (done-as (kind-at .1) q refl))
+  pub passed : noneLeads sort (slotsOf names count s starts) i ≡ true → b ≡ false → noneLeads sort (slotsOf names count s starts) (i + 1) ≡ true
+  passed e h = none-next sort (slotsOf names count s starts) i e (λ k. not-both _ (eq-eqb _ _ k) (sym kind-at ∙ h))
 
-  pub stopped : (n : ℕ) → Leading sort s (getD starts i 0) (Body.At n) → false ≡ noneLeads sort (slotsOf names count s starts) count
-  stopped n e = sym (one-leads sort (slotsOf names count s starts) i count l (given (sym (kind-at .1) ∙ e) .0))
+  pub stopped : b ≡ true → false ≡ noneLeads sort (slotsOf names count s starts) count
+  stopped h = sym (one-leads sort (slotsOf names count s starts) i count l (eqb-true _ _ (sym kind-at ∙ h)))

@@ -21,7 +21,8 @@ use Rattle.graph.specs.Table.{grid, Marked}
 use Rattle.graph.proofs.Rows.{grown-none, grown-as}
 use Rattle.loops.specs.Leads.{followed, followedPair, terminalSlots, found, genericSlots, treeSlots}
 use Rattle.loops.specs.Chains.{has-append}
-use Rattle.loops.specs.Marks.{enters, nameSlots, placeOf, Led, TreeMarked}
+use Rattle.view.specs.Take.{placeOf}
+use Rattle.loops.specs.Marks.{enters, nameSlots, Led, TreeMarked}
 
 module _ {m : List ℕ} (row : ℕ) where
   pub led-none : {l : List ℕ} → length m ≡ 4096 → [] ≡ l → Led m row l m

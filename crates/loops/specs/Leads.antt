@@ -10,6 +10,7 @@ use Rattle.tree.specs.Tree.{Tree, Leaf, Wrap, Pair, leaf, wrap, fixedArray, pai
 use Rattle.tree.specs.declared.Sort.{Sort}
 use Rattle.tree.specs.declared.Sort.the-variants.{Resolved, Expression}
 use Rattle.slot.specs.Slot.{Slot, empty, message, enum, flags, union, newtype, config, alias, trait, impl, slotAt}
+use Rattle.view.specs.Inside.{nameCount}
 use Rattle.graph.specs.Ways.{Leads, lowestLooped, has}
 use Rattle.graph.specs.declared.Lowest.{Lowest}
 
@@ -95,8 +96,9 @@ slotOr (refused r p) = empty
 unfoldable pub slotsOf : (names count : ℕ) → (s starts : List ℕ) → ℕ → Slot
 slotsOf names count s starts i = cond (ltb i count) (slotOr (read (slotAt names) s (getD starts i 0))) empty
 
--- a slot was read at each start
+-- a slot was read at each start, of as many as there are slots, in an image of so many names
 pub record Located (names count : ℕ) (s starts : List ℕ) : Type 0 where
   pub few : count ≤ 512
-  pub room : count ≤ length starts
+  pub room : length starts ≡ count
+  pub named : nameCount s ≡ names
   pub reads : (i : ℕ) → i < count → (x : Slot) × (end : ℕ) × (read (slotAt names) s (getD starts i 0) ≡ done x end)

@@ -1,28 +1,18 @@
 // Refusals 8 and 9: newtypes that lead back to themselves by their terminal types, and aliases by the generics of their
 // targets.
 use graph::Lowest;
-use number::Next;
-use number::Ranged;
 use tree::Head;
 use tree::Sort;
+use view::Part;
 ghost use mathlib.Core.Path.{_≡_};
 ghost use mathlib.Core.List.{List};
 ghost use Prim.Native.Nat.{ℕ, _<_, _≤_};
 ghost use lib.ListN.{length};
-ghost use Rattle.number.specs.Grammar.{slot, number, many, done, read};
 ghost use Rattle.tree.specs.Tree.{Leaf, leaf, leafKind, leafNumber};
 ghost use Rattle.loops.specs.Leads.{treeSlots, leads, loopOf, slotsOf, Located};
-ghost use Rattle.loops.specs.Marks.{leadKind, noneLeads, usedNames, Leading, TreeStart, enters, nameSlots, placeOf, Led, TreeMarked, SlotMarked, Filled};
-
-// Where a cursor stands. The image was read before, so that no refusal is met.
-fn place(cursor: Next) -> usize
-    ensures { λ r. ⌜ r ≡ placeOf cursor ⌝ }
-{
-    match cursor {
-        Next::At(n) => n,
-        Next::Refused(_, p) => p,
-    }
-}
+ghost use Rattle.view.specs.Part.{partAt};
+ghost use Rattle.image.specs.Finds.{findsAt};
+ghost use Rattle.loops.specs.Marks.{leadKind, partLeads, noneLeads, usedNames, enters, nameSlots, Led, TreeMarked, SlotMarked, Filled};
 
 // Does a kind's child lead on? In types, elements of Array, Set and Map do not.
 fn goes_in(sort: Sort, kind: u64) -> bool
@@ -96,7 +86,7 @@ fn mark_tree(
             if goes_in(sort, kind) {
                 mark_tree(image, body, levels - 1, sort, names, finds, rows, row)
             } else {
-                place(tree::read_tree(image, body, levels - 1, sort, names))
+                view::place_of(tree::read_tree(image, body, levels - 1, sort, names))
             }
         }
         Head::Two(kind, body) => {
@@ -104,13 +94,13 @@ fn mark_tree(
                 let second = mark_tree(image, body, levels - 1, sort, names, finds, rows, row);
                 mark_tree(image, second, levels - 1, sort, names, finds, rows, row)
             } else {
-                let second = place(tree::read_tree(image, body, levels - 1, sort, names));
-                place(tree::read_tree(image, second, levels - 1, sort, names))
+                let second = view::place_of(tree::read_tree(image, body, levels - 1, sort, names));
+                view::place_of(tree::read_tree(image, second, levels - 1, sort, names))
             }
         }
         Head::Sized(body) => {
             let size = mark_tree(image, body, levels - 1, sort, names, finds, rows, row);
-            place(number::skip_whole(image, size))
+            view::place_of(number::skip_whole(image, size))
         }
         Head::Generic(name, body) => {
             mark_generic(sort, name, finds, rows, row);
@@ -118,12 +108,6 @@ fn mark_tree(
         }
         Head::Refused(_, p) => p,
     }
-}
-
-// Where the body of a slot starts, if the slot is of the kind that leads on.
-enum Body {
-    At(usize),
-    Nothing,
 }
 
 // The kind of the slots that lead on.
@@ -136,34 +120,20 @@ fn lead_kind(sort: Sort) -> u64
     }
 }
 
-fn body_of(image: &[u8], at: usize, sort: Sort) -> Body
-    ensures { λ r. ⌜ Leading sort (now (image .entry)) at r ⌝ }
+// Is slot i of that kind?
+fn is_lead(image: &[u8], starts: &[usize], i: usize, sort: Sort) -> bool
+    ensures { λ r. ⌜ r ≡ partLeads sort (partAt (now (image .entry)) (now (starts .entry)) i) ⌝ }
 {
-    match number::read_below(image, at, 10) {
-        Ranged::Value(kind, body) => {
-            if kind == lead_kind(sort) {
-                Body::At(body)
-            } else {
-                Body::Nothing
-            }
-        }
-        Ranged::Refused(_, _) => Body::Nothing,
+    match view::slot_part(image, starts, i) {
+        Part::At(kind, _) => kind == lead_kind(sort),
+        Part::Missing => false,
     }
 }
 
-// A newtype's inner type stands before its terminal type, and an alias's parameters before its target.
-fn tree_start(image: &[u8], body: usize, sort: Sort, names: u64) -> usize
-    ensures { λ r. ⌜ TreeStart sort names (now (image .entry)) body r ⌝ }
-{
-    match sort {
-        Sort::Resolved => place(tree::read_tree(image, body, 32, Sort::Resolved, names)),
-        Sort::Expression => place(number::skip_counted(image, Next::At(body), names)),
-    }
-}
-
+// A newtype leads on by its terminal type, and an alias by its target: both stand inside the slot.
 fn slot_row(
     image: &[u8],
-    at: usize,
+    starts: &[usize],
     sort: Sort,
     names: u64,
     finds: &[u16],
@@ -171,14 +141,11 @@ fn slot_row(
     row: usize,
 )
     requires { ⌜ (length (now rows) ≡ 4096) × (row < 512) ⌝ }
-    ensures { λ _. ⌜ SlotMarked sort names (now (finds .entry)) row (now (image .entry)) at (now (rows .entry)) (now (rows .exit)) ⌝ }
+    ensures { λ _. ⌜ SlotMarked sort names (now (finds .entry)) row (now (image .entry)) (now (starts .entry)) (now (rows .entry)) (now (rows .exit)) ⌝ }
 {
-    match body_of(image, at, sort) {
-        Body::At(body) => {
-            let start = tree_start(image, body, sort, names);
-            mark_tree(image, start, 32, sort, names, finds, rows, row);
-        }
-        Body::Nothing => {}
+    if is_lead(image, starts, row, sort) {
+        let start = view::slot_inside(image, starts, row);
+        mark_tree(image, start, 32, sort, names, finds, rows, row);
     }
 }
 
@@ -196,7 +163,7 @@ fn fill_rows(
 {
     let mut i: usize = 0;
     while i < count {
-        slot_row(image, starts[i], sort, names, finds, rows, i);
+        slot_row(image, starts, sort, names, finds, rows, i);
         i += 1;
     }
 }
@@ -208,14 +175,10 @@ pub fn none_leads(image: &[u8], starts: &[usize], count: usize, sort: Sort) -> b
 {
     let mut i: usize = 0;
     while i < count {
-        match body_of(image, starts[i], sort) {
-            Body::At(_) => {
-                return false;
-            }
-            Body::Nothing => {
-                i += 1;
-            }
+        if is_lead(image, starts, i, sort) {
+            return false;
         }
+        i += 1;
     }
     true
 }
@@ -258,7 +221,7 @@ pub fn lowest_looped(
     sort: Sort,
 ) -> Lowest
     requires { ⌜ (names ≤ 4096) × Located names count (now image) (now starts) ⌝ }
-    ensures { λ r. ⌜ ((fs : List ℕ) (n : ℕ) → read (many names (number slot 513)) (now (image .entry)) finds ≡ done fs n → r ≡ loopOf sort fs (slotsOf names count (now (image .entry)) (now (starts .entry))) count) ⌝ }
+    ensures { λ r. ⌜ r ≡ loopOf sort (findsAt names (now (image .entry)) finds) (slotsOf names count (now (image .entry)) (now (starts .entry))) count ⌝ }
 {
     let used = names_used(names, sort);
     let mut table = [0u16; 4096];

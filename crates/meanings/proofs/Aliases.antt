@@ -18,7 +18,8 @@ use Rattle.image.specs.declared.Frame.{Frame}
 use Rattle.reader.specs.Reading.{isEmpty, schemaOf}
 use Rattle.view.specs.Part.{partAt}
 use Rattle.view.specs.declared.Part.{Part}
-use Rattle.view.proofs.Fetching.{Behind, part-behind, not-missing}
+use Rattle.view.proofs.Fetching.{Behind}
+use Rattle.reader.proofs.Fetching.{part-behind, not-missing}
 use Rattle.view.proofs.Places.{at-same, at-not, at-place}
 use Rattle.findings.specs.Meaning.{unfound, throughAlias}
 use Rattle.meanings.specs.Scopes.{RightAlias, Ready}

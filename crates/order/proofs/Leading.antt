@@ -31,7 +31,9 @@ use Rattle.slot.specs.declared.Short.{Short}
 use Rattle.slot.proofs.FourBytes.{short-reads, short-kind, short-number}
 use Rattle.slot.proofs.Whole.{made-of}
 use Rattle.image.specs.Schema.{Schema, slotOf}
+use Rattle.view.specs.Take.{placeOf}
 use Rattle.view.proofs.Places.{inner-stands, type-stands}
+use Rattle.view.proofs.Taking.{placed}
 use Rattle.view.proofs.Fetching.{Behind, body-at}
 use Rattle.order.specs.Order.{holdsBare, rank, leadsOn, bareLeaf, bareType, bareFields, bareSlot, inOrder, ordered, isOrdered}
 
@@ -169,8 +171,8 @@ module _ (test : ℕ → Bool) (names : ℕ) (s : List ℕ) where
         go (done (applied v) m) f = not-leaf _ (inr (inr (inr (inl refl)))) (ap shape f) t end e
         go (refused r p) f = not-leaf _ (inr (inr (inr (inr refl)))) (ap shape f) t end e
 
-    pub led-other : Passes → (a : Next) (n : ℕ) → a ≡ next (read (typeAt names) s at) → ((k : ℕ) → a ≡ Next.At k → n ≡ k) → LedType at true n
-    led-other h a n f w t end e = (sym (h t end e), w end (f ∙ ap next e))
+    pub led-other : Passes → (a : Next) (n : ℕ) → a ≡ next (read (typeAt names) s at) → n ≡ placeOf a → LedType at true n
+    led-other h a n f w t end e = (sym (h t end e), placed w (f ∙ ap next e))
 
 -- ## A field
 
@@ -179,10 +181,10 @@ module _ (names : ℕ) (s : List ℕ) (at : ℕ) where
   abbrev pub TypeAt : (p : ℕ) → Type 0
   TypeAt p = (x : Field) (end : ℕ) → read (fieldAt names) s at ≡ done x end → read (typeAt names) s p ≡ done (x .type) end
 
-  pub type-place : (a b : Next) (p : ℕ) → a ≡ next (below names s at) → b ≡ follow a (λ n. next (read (encodingAt 32) s n)) → ((k : ℕ) → b ≡ Next.At k → p ≡ k) → TypeAt p
+  pub type-place : (a b : Next) (p : ℕ) → a ≡ next (below names s at) → b ≡ follow a (λ n. next (read (encodingAt 32) s n)) → p ≡ placeOf b → TypeAt p
   type-place a b p f g w x end e =
       let y = type-stands s names at x end e a b f g in
-      ap (read (typeAt names) s) (w (y .0) (y .1)) ∙ y .2
+      ap (read (typeAt names) s) (placed w (y .1)) ∙ y .2
 
 -- what is answered of the field at a place, and the position after it
 abbrev pub LedField : (test : ℕ → Bool) (names : ℕ) (s : List ℕ) (at : ℕ) → Bool → ℕ → Type 0

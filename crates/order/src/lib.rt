@@ -179,7 +179,7 @@ fn slot_leads_on(image: &[u8], starts: &[usize], frame: Frame, up: bool, slot: u
     };
     match kind {
         1 => {
-            let place = view::fields_place(image, body);
+            let place = view::slot_inside(image, starts, slot);
             fields_lead_on(image, starts, frame, up, slot, place)
         }
         5 => {

@@ -173,7 +173,7 @@ fn list_slot(
     };
     match kind {
         1 => {
-            let place = view::fields_place(image, body);
+            let place = view::slot_inside(image, starts, slot);
             let a = list_fields(image, place, frame.names, 1, parts, used);
             Slotted {
                 message: true,
@@ -181,7 +181,7 @@ fn list_slot(
             }
         }
         4 => {
-            let place = view::variants_place(image, body);
+            let place = view::slot_inside(image, starts, slot);
             let a = list_variants(image, place, frame.names, parts, used);
             Slotted {
                 message: false,

@@ -1,13 +1,13 @@
 -- From the parts of an image to the answer, and to what is promised of it. Assumes nothing.
-use Prim.Native.Nat.{ℕ, zero, suc, _+_, _≤_, _<_, _^_}
+use Prim.Native.Nat.{ℕ, zero, suc, _+_, _-_, _≤_, _<_, _^_}
 use mathlib.Core.Path.{_≡_, refl, sym, ap, ap₂, subst, fun-ext, _∙_}
 use mathlib.Core.List.{List}
 use mathlib.Core.Bool.{false}
 use mathlib.Core.Logic.{by-cases}
 use native.Mathlib.Omega.{arith}
 use native.Mathlib.Decide.{decLt}
-use lib.ListN.{length, getD, drop, replicate, length-map, List·getD-eq-default, List·getD-append}
-use lib.Seq.{sets, sets-eq, length-sets}
+use lib.ListN.{length, getD, take, drop, replicate, length-map, length-take, List·getD-eq-default, List·getD-append}
+use lib.Seq.{sets, sets-eq, length-sets, getD-take}
 use Rattle.number.specs.Grammar.{slot, count, give, _>>=_, number, here, many, Outcome, done, refused, read}
 use Rattle.number.proofs.Reading.{read-bind, read-number, read-done, then-on, given, front, many-length}
 use Rattle.number.proofs.InRange.{below-is}
@@ -22,6 +22,10 @@ use Rattle.image.specs.declared.Frame.{Frame}
 use Rattle.image.specs.declared.Framed.{Framed}
 use Rattle.image.proofs.Framing.{Accepted, accepted, all-readable, FrontParts, front-parts, declared-parts}
 use Rattle.image.proofs.Tables.{placed-is, entry}
+use Rattle.image.specs.Finds.{findsAt}
+use Rattle.image.proofs.Finding.{finds-read}
+use Rattle.view.specs.Take.{takenOf}
+use Rattle.view.specs.Inside.{nameCount}
 use Rattle.loops.specs.Leads.{loopOf, slotsOf, Located}
 use Rattle.loops.specs.Refusals.{slots-past}
 use Rattle.reader.specs.Reading.{isEmpty, lostName, judged, answered, readingOf, schemaOr, schemaOf, startsOr, startsTable}
@@ -77,6 +81,10 @@ module _ (s starts : List ℕ) (f : Frame) (v : Seen s starts f) where
   unfolding frameIn
   finds-are = ap (λ (g : Frame). g .finds) (v .frame)
 
+  names-first : nameCount s ≡ f .names
+  unfolding nameCount
+  names-first = ap (λ o. takenOf o .value) (fronts .namesRead) ∙ sym names-are
+
   pub few-names : f .names ≤ 4096
   few-names = omega (arith, names-are, fronts .fewNames)
 
@@ -91,7 +99,8 @@ module _ (s starts : List ℕ) (f : Frame) (v : Seen s starts f) where
   located =
       record {
         few = omega (arith, slots-are, fronts .fewSlots);
-        room = omega (arith, slots-are, v .room);
+        room = v .room ∙ sym slots-are;
+        named = names-first;
         reads = λ i h. let e = slots-read i h in (slotOf (schemaOf s) i, e .0, e .1);
       }
 
@@ -109,9 +118,9 @@ module _ (s starts : List ℕ) (f : Frame) (v : Seen s starts f) where
       (λ h. let e = slots-read i h in slot-at (f .names) (f .slots) s starts located i h _ (e .0) (e .1))
       (λ h. slots-past (f .names) (f .slots) s starts i (omega arith) ∙ sym (List·getD-eq-default (schemaOf s .slots) empty {n = i} (omega (arith, count-is)))))
 
-  finds-read : read (many (f .names) (number slot 513)) s (f .finds) ≡ done (schemaOf s .finds) (fronts .findsEnd)
+  finds-stand : read (many (f .names) (number slot 513)) s (f .finds) ≡ done (schemaOf s .finds) (fronts .findsEnd)
   unfolding schemaIn
-  finds-read =
+  finds-stand =
       ap₂ (λ (n p : ℕ). read (many n (number slot 513)) s p) names-are finds-are
       ∙ fronts .findsRead
       ∙ ap (λ (S : Schema). done (S .finds) (fronts .findsEnd)) (sym schema-is)
@@ -119,13 +128,13 @@ module _ (s starts : List ℕ) (f : Frame) (v : Seen s starts f) where
   -- what the code's answers say of the schema
   pub told-names : (r : Lowest) → ((fs : List ℕ) (n : ℕ) → read (many (f .names) (number slot 513)) s (f .finds) ≡ done fs n → r ≡ lostName fs (slotsOf (f .names) (f .slots) s starts))
       → lostName (schemaOf s .finds) (slotOf (schemaOf s)) ≡ r
-  told-names r h = sym (h (schemaOf s .finds) (fronts .findsEnd) finds-read ∙ ap (lostName (schemaOf s .finds)) slots-same)
+  told-names r h = sym (h (schemaOf s .finds) (fronts .findsEnd) finds-stand ∙ ap (lostName (schemaOf s .finds)) slots-same)
 
-  pub told-loop : (sort : Sort) (r : Lowest)
-      → ((fs : List ℕ) (n : ℕ) → read (many (f .names) (number slot 513)) s (f .finds) ≡ done fs n → r ≡ loopOf sort fs (slotsOf (f .names) (f .slots) s starts) (f .slots))
+  pub told-loop : (sort : Sort) (r : Lowest) → r ≡ loopOf sort (findsAt (f .names) s (f .finds)) (slotsOf (f .names) (f .slots) s starts) (f .slots)
       → loopOf sort (schemaOf s .finds) (slotOf (schemaOf s)) (length (schemaOf s .slots)) ≡ r
   told-loop sort r h =
-      sym (h (schemaOf s .finds) (fronts .findsEnd) finds-read ∙ ap₂ (λ (x : ℕ → Slot) (k : ℕ). loopOf sort (schemaOf s .finds) x k) slots-same count-is)
+      sym (h ∙ ap (λ (fs : List ℕ). loopOf sort fs (slotsOf (f .names) (f .slots) s starts) (f .slots)) (finds-read (f .names) s (f .finds) (schemaOf s .finds) (fronts .findsEnd) finds-stand)
+      ∙ ap₂ (λ (x : ℕ → Slot) (k : ℕ). loopOf sort (schemaOf s .finds) x k) slots-same count-is)
 
   pub reading-is : judged (schemaOf s) f ≡ readingOf s
   reading-is = ap (judged (schemaOf s)) (v .frame) ∙ schema-read s record { image = v .image; end = v .end; reads = v .reads }
@@ -141,9 +150,10 @@ module _ (s starts : List ℕ) (f : Frame) (v : Seen s starts f) where
       subst (λ (h : Frame). Promise s starts h) (c .frame)
       record {
         small = parts .few;
+        named = names-first;
         fewNames = few-names;
         findsEnd = fronts .findsEnd;
-        finds = finds-read;
+        finds = finds-stand;
         count = count-is;
         few = located .few;
         room = located .room;
@@ -172,28 +182,37 @@ module _ (s starts : List ℕ) (f : Frame) (v : Seen s starts f) where
           ∙ declared-parts s (parts .declarationsPlace) (v .image .declared) (v .end) (parts .declaredRead)
           ∙ ap (λ (S : Schema). done (S .declared) (v .end)) (sym schema-is)
 
--- the image that was framed
+-- the first places of a table, as a part of it
+pub first-places : (k : ℕ) (l : List ℕ) → take k l ≡ take (k - 0) (drop 0 l)
+first-places k l = let z : k - 0 ≡ k = omega arith in rw z
+
+-- the image that was framed, with as many of the table's places as it has slots
 pub seen : (s l l′ : List ℕ) (f : Frame) → 512 ≤ length l → Framed.Read f ≡ framed (imageOf s)
-    → l′ ≡ sets l 0 (startsOf (readableSlots s)) → Seen s l′ f
+    → l′ ≡ sets l 0 (startsOf (readableSlots s)) → (f .slots ≤ length l′) × Seen s (take (f .slots) l′) f
+unfolding frameIn
 seen s l l′ f h e t = go (imageOf s) refl e
   where
-    inside : (i : Image) (n : ℕ) → imageOf s ≡ done i n → f ≡ frameIn i → Seen s l′ f
+    inside : (i : Image) (n : ℕ) → imageOf s ≡ done i n → f ≡ frameIn i → (f .slots ≤ length l′) × Seen s (take (f .slots) l′) f
     inside i n x y =
         let a = accepted s i n x in
         let k = front-parts s (i .front) (a .slotsPlace) (a .frontRead) .fewSlots in
         let c = length-map (i .slots) (λ z. z .start) ∙ many-length (placedAt (i .front .names)) s (i .front .slotCount) (a .slotsPlace) (i .slots) (a .declarationsPlace) (a .slotsRead) in
         let w : 0 + length (startsOf (i .slots)) ≤ length l = omega arith in
         let written = t ∙ ap (λ (ss : List Placed). sets l 0 (startsOf ss)) (all-readable s i n x) in
-        record {
-          image = i;
-          end = n;
-          reads = x;
-          frame = y;
-          table = λ j q. ap (λ (m : List ℕ). getD m j 0) (written ∙ sets-eq (startsOf (i .slots)) l 0 w) ∙ List·getD-append (startsOf (i .slots)) (drop (0 + length (startsOf (i .slots))) l) 0 j (omega arith);
-          room = omega (arith, ap length written ∙ length-sets l 0 (startsOf (i .slots)));
-        }
+        let m : f .slots ≡ i .front .slotCount = ap (λ (g : Frame). g .slots) y in
+        let r : f .slots ≤ length l′ = omega (arith, ap length written ∙ length-sets l 0 (startsOf (i .slots))) in (
+          r,
+          record {
+            image = i;
+            end = n;
+            reads = x;
+            frame = y;
+            table = λ j q. getD-take (f .slots) l′ j 0 (omega arith) ∙ ap (λ (m : List ℕ). getD m j 0) (written ∙ sets-eq (startsOf (i .slots)) l 0 w) ∙ List·getD-append (startsOf (i .slots)) (drop (0 + length (startsOf (i .slots))) l) 0 j (omega arith);
+            room = omega (arith, length-take (f .slots) l′);
+          },
+        )
 
-    go : (o : Outcome Image) → imageOf s ≡ o → Framed.Read f ≡ framed o → Seen s l′ f
+    go : (o : Outcome Image) → imageOf s ≡ o → Framed.Read f ≡ framed o → (f .slots ≤ length l′) × Seen s (take (f .slots) l′) f
     go (done i n) x y = inside i n x (cc)
     go (refused r q) x y = let z : _≡_ {A = ℕ} 0 1 = cc in absurd (omega arith)
 
@@ -208,12 +227,13 @@ not-seen s r q e = go (imageOf s) e
 pub judged-said : (s l l′ : List ℕ) (f : Frame) → 512 ≤ length l → Framed.Read f ≡ framed (imageOf s)
     → l′ ≡ sets l 0 (startsOf (readableSlots s)) → (r : Reading) → r ≡ judged (schemaOf s) f → Answered s l l′ r
 judged-said s l l′ f h e t r j =
-    let v = seen s l l′ f h e t in
+    let v = seen s l l′ f h e t .1 in
+    let p = take (f .slots) l′ in
     record {
-      answer = j ∙ reading-is s l′ f v;
-      exact = exactly s (j ∙ reading-is s l′ f v);
+      answer = j ∙ reading-is s p f v;
+      exact = exactly s (j ∙ reading-is s p f v);
       table = t;
-      promise = λ g a. promised s l′ f v g (sym j ∙ a);
+      promise = λ g a. subst (λ (h : Frame). Promise s (take (h .slots) l′) g) (clear (schemaOf s) f g (sym j ∙ a) .frame) (promised s p f v g (sym j ∙ a));
     }
 
 pub refused-said : (s l l′ : List ℕ) (r q : ℕ) → Framed.Refused r q ≡ framed (imageOf s) → l′ ≡ sets l 0 (startsOf (readableSlots s))

@@ -2,3 +2,4 @@ pub mod Numbers
 pub mod Telling
 pub mod Losing
 pub mod Judging
+pub mod Fetching

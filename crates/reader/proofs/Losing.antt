@@ -3,20 +3,25 @@ use Prim.Native.Nat.{ℕ, zero, suc, _+_, _-_, _≤_, _<_}
 use mathlib.Core.Path.{_≡_, refl, sym, ap, _∙_}
 use mathlib.Core.List.{List}
 use mathlib.Core.Bool.{Bool, true, false}
+use mathlib.Core.Logic.{by-cases}
 use native.Mathlib.Omega.{arith}
+use native.Mathlib.Decide.{decLt}
 use lib.Dec.{eqb}
 use lib.ListN.{getD}
 use borrow.Author.Tests.{lt-ltb}
 use Rattle.number.specs.Grammar.{slot, number, many, done, refused, below, read}
 use Rattle.number.proofs.Reading.{not-done, given, read-number, front, many-length}
 use Rattle.slot.specs.Slot.{Slot, empty, message, enum, flags, union, newtype, config, alias, trait, impl, slotKind, slotAt}
-use Rattle.slot.proofs.Whole.{slot-parts}
+use Rattle.view.specs.Part.{partAt}
+use Rattle.view.specs.declared.Part.{Part}
+use Rattle.view.proofs.Fetching.{past, part-there}
 use Rattle.graph.specs.Ways.{lowest}
 use Rattle.graph.specs.declared.Lowest.{Lowest}
 use Rattle.graph.proofs.Rows.{low-at, low-next, low-none}
 use Rattle.loops.specs.Leads.{slotsOf, Located}
 use Rattle.loops.specs.Refusals.{slots-past}
 use Rattle.reader.specs.Reading.{isEmpty, lost, lostName}
+use Rattle.reader.specs.Lost.{emptyPart, lostAt}
 
 empty-kind : (x : Slot) → isEmpty x ≡ eqb (slotKind x) 0
 empty-kind empty = refl
@@ -30,37 +35,30 @@ empty-kind (alias a) = refl
 empty-kind (trait t) = refl
 empty-kind (impl i) = refl
 
-pub lost-none : (slots : ℕ → Slot) (find : ℕ) → find ≡ 0 → false ≡ lost slots find
-unfolding lost
-lost-none slots find e = rw e
+-- by the code's steps
+module _ (s starts : List ℕ) (find : ℕ) where
+  pub lost-none : find ≡ 0 → false ≡ lostAt s starts find
+  unfolding lostAt
+  lost-none e = rw e
 
-lost-on : (slots : ℕ → Slot) (find : ℕ) → (find ≡ 0 → ⊥) → lost slots find ≡ isEmpty (slots (find - 1))
-unfolding lost
-lost-on slots zero h = absurd (h refl)
-lost-on slots (suc i) h = let d : suc i - 1 ≡ i = omega arith in rw d
+  pub lost-part : (find ≡ 0 → ⊥) → (x : Part) → partAt s starts (find - 1) ≡ x → emptyPart x ≡ lostAt s starts find
+  unfolding lostAt
+  lost-part h x e = let d : find ≡ suc (find - 1) = omega arith in sym (ap (lostAt s starts) d ∙ ap emptyPart e)
 
 module _ (names count : ℕ) (s starts : List ℕ) (l : Located names count s starts) where
   pub slot-at : (i : ℕ) (h : i < count) (x : Slot) (end : ℕ) → read (slotAt names) s (getD starts i 0) ≡ done x end → slotsOf names count s starts i ≡ x
   unfolding slotsOf
   slot-at i h x end e = simp (lt-ltb i count h) (rw e)
 
-  module _ (find : ℕ) (h : find ≡ 0 → ⊥) where
-    pub lost-beyond : count ≤ find - 1 → true ≡ lost (slotsOf names count s starts) find
-    lost-beyond k = sym (lost-on _ find h ∙ ap isEmpty (slots-past names count s starts (find - 1) k))
-
-    module _ (k : find - 1 < count) where
-      pub lost-kind : (v n : ℕ) → below 10 s (getD starts (find - 1) 0) ≡ done v n → eqb v 0 ≡ lost (slotsOf names count s starts) find
-      lost-kind v n e =
-          let x = l .reads (find - 1) k in
-          let p = slot-parts s names (getD starts (find - 1) 0) (x .0) (x .1) (x .2) in
-          let q : slotKind (x .0) ≡ v = given (sym (p .kindRead) ∙ e) .0 in
-          sym (lost-on _ find h ∙ ap isEmpty (slot-at (find - 1) k (x .0) (x .1) (x .2)) ∙ empty-kind (x .0) ∙ ap (λ (y : ℕ). eqb y 0) q)
-
-      pub lost-refused : (r q : ℕ) → below 10 s (getD starts (find - 1) 0) ≡ refused r q → true ≡ lost (slotsOf names count s starts) find
-      lost-refused r q e =
-          let x = l .reads (find - 1) k in
-          let p = slot-parts s names (getD starts (find - 1) 0) (x .0) (x .1) (x .2) in
-          absurd (not-done e (p .kindRead))
+  -- the slots' parts say which names are lost
+  pub lost-is : (find : ℕ) → lostAt s starts find ≡ lost (slotsOf names count s starts) find
+  unfolding lostAt lost
+  lost-is zero = refl
+  lost-is (suc i) = by-cases (decLt i count)
+      (λ h.
+      let x = l .reads i h in
+      ap emptyPart (part-there names s starts i (omega (arith, l .room)) (x .0) (x .1) (x .2) .1) ∙ sym (empty-kind (x .0)) ∙ ap isEmpty (sym (slot-at i h (x .0) (x .1) (x .2))))
+      (λ h. ap emptyPart (sym (past s starts i (omega (arith, l .room)))) ∙ ap isEmpty (sym (slots-past names count s starts i (omega arith))))
 
 -- the names from number n on, which are still to be looked at
 module _ (names : ℕ) (s : List ℕ) (at : ℕ) (slots : ℕ → Slot) where

@@ -3,7 +3,7 @@ use Prim.Native.Nat.{ℕ, suc, _≤_, _<_, _^_}
 use mathlib.Core.Path.{_≡_}
 use mathlib.Core.List.{List}
 use mathlib.Core.Bool.{false}
-use lib.ListN.{length, getD}
+use lib.ListN.{length, getD, take}
 use lib.Seq.{sets}
 use Rattle.number.specs.Grammar.{slot, number, many, done, read}
 use Rattle.tree.specs.declared.Sort.the-variants.{Resolved, Expression}
@@ -11,30 +11,33 @@ use Rattle.slot.specs.Slot.{slotAt}
 use Rattle.image.specs.Schema.{slotOf}
 use Rattle.image.specs.Image.{Image, imageOf, frameIn, startsOf, readableSlots}
 use Rattle.image.specs.declared.Frame.{Frame}
+use Rattle.view.specs.Inside.{nameCount}
 use Rattle.loops.specs.Refusals.{OnLoop}
 use Rattle.reader.specs.Reading.{isEmpty, readingOf, schemaOf}
 use Rattle.reader.specs.Refusals.{Judged}
 use Rattle.reader.specs.declared.Reading.{Reading}
 
--- the image was read whole, as far as refusals 1 to 6 go, and the table holds where its slots start
+-- the image was read whole, as far as refusals 1 to 6 go, and the starts are those of its slots
 pub record Seen (s starts : List ℕ) (f : Frame) : Type 0 where
   pub image : Image
   pub end : ℕ
   pub reads : imageOf s ≡ done image end
   pub frame : f ≡ frameIn image
   pub table : (i : ℕ) → i < image .front .slotCount → getD starts i 0 ≡ getD (startsOf (image .slots)) i 0
-  pub room : image .front .slotCount ≤ length starts
+  pub room : length starts ≡ image .front .slotCount
 
 -- every part of the image reads back as the schema's part at that place; no newtypes lead back to themselves by terminal
 -- types, no aliases by generics; every name that finds a slot finds one that is there
 pub record Promise (s starts : List ℕ) (f : Frame) : Type 0 where
   pub small : length s ≤ 65536
+  pub named : nameCount s ≡ f .names
   pub fewNames : f .names ≤ 4096
   pub findsEnd : ℕ
   pub finds : read (many (f .names) (number slot 513)) s (f .finds) ≡ done (schemaOf s .finds) findsEnd
   pub count : f .slots ≡ length (schemaOf s .slots)
   pub few : f .slots ≤ 512
-  pub room : f .slots ≤ length starts
+  -- the starts are those of the slots, and no more
+  pub room : length starts ≡ f .slots
   pub slots : (i : ℕ) → i < f .slots → (end : ℕ) × (read (slotAt (f .names)) s (getD starts i 0) ≡ done (slotOf (schemaOf s) i) end)
   -- the slots follow one another
   pub run : (at : ℕ) × (end : ℕ) × (read (many (f .slots) (slotAt (f .names))) s at ≡ done (schemaOf s .slots) end)
@@ -45,9 +48,10 @@ pub record Promise (s starts : List ℕ) (f : Frame) : Type 0 where
   pub newtypes : (i : ℕ) → OnLoop Resolved (schemaOf s .finds) (slotOf (schemaOf s)) i → ⊥
   pub aliases : (i : ℕ) → OnLoop Expression (schemaOf s .finds) (slotOf (schemaOf s)) i → ⊥
 
--- what reading into a table that had `before` says of the answer, of the table and of what is promised
+-- what reading into a table that had `before` says of the answer, of the table and of what is promised of its first places,
+-- one for each slot
 pub record Answered (s before after : List ℕ) (r : Reading) : Type 0 where
   pub answer : r ≡ readingOf s
   pub exact : Judged s r
   pub table : after ≡ sets before 0 (startsOf (readableSlots s))
-  pub promise : (f : Frame) → r ≡ Reading.Accepted f → Promise s after f
+  pub promise : (f : Frame) → r ≡ Reading.Accepted f → Promise s (take (f .slots) after) f

@@ -4,15 +4,18 @@ use image::Frame;
 use image::Framed;
 use number::Ranged;
 use tree::Sort;
+use view::Part;
 ghost use mathlib.Core.Path.{_≡_};
 ghost use mathlib.Core.List.{List};
 ghost use Prim.Native.Nat.{ℕ, _≤_};
 ghost use lib.ListN.{length};
 ghost use Rattle.number.specs.Grammar.{slot, number, many, done, read};
+ghost use Rattle.image.specs.Finds.{findsAt};
 ghost use Rattle.loops.specs.Leads.{loopOf, slotsOf, Located};
-ghost use Rattle.reader.specs.Reading.{lost, lostName, orRefuse, judged, readingOf, schemaOf, startsTable};
+ghost use Rattle.reader.specs.Reading.{lostName, orRefuse, judged, readingOf, schemaOf, startsTable};
 ghost use Rattle.reader.specs.Refusals.{Judged};
 ghost use Rattle.reader.specs.Promise.{Seen, Answered};
+ghost use Rattle.reader.specs.Lost.{lostAt};
 
 pub enum Reading {
     Accepted(Frame),
@@ -26,20 +29,15 @@ pub struct Read {
 }
 
 // Does a name that finds slot + 1 find one that is empty or beyond the slots?
-fn is_lost(image: &[u8], starts: &[usize], count: usize, names: u64, find: u64) -> bool
-    requires { ⌜ Located names count (now image) (now starts) ⌝ }
-    ensures { λ r. ⌜ r ≡ lost (slotsOf names count (now (image .entry)) (now (starts .entry))) find ⌝ }
+fn is_lost(image: &[u8], starts: &[usize], find: u64) -> bool
+    ensures { λ r. ⌜ r ≡ lostAt (now (image .entry)) (now (starts .entry)) find ⌝ }
 {
     if find == 0 {
         return false;
     }
-    let slot = find - 1;
-    if count as u64 <= slot {
-        return true;
-    }
-    match number::read_below(image, starts[slot as usize], 10) {
-        Ranged::Value(kind, after) => kind == 0,
-        Ranged::Refused(_, q) => true,
+    match view::slot_part(image, starts, (find - 1) as usize) {
+        Part::At(kind, _) => kind == 0,
+        Part::Missing => true,
     }
 }
 
@@ -53,7 +51,7 @@ fn lost_name(image: &[u8], starts: &[usize], count: usize, names: u64, finds: us
     while n < names {
         match number::read_below(image, p, 513) {
             Ranged::Value(find, after) => {
-                if is_lost(image, starts, count, names, find) {
+                if is_lost(image, starts, find) {
                     return Lowest::At(n as usize);
                 }
                 p = after;
@@ -77,7 +75,7 @@ fn looped(
     sort: Sort,
 ) -> Lowest
     requires { ⌜ (names ≤ 4096) × Located names count (now image) (now starts) ⌝ }
-    ensures { λ r. ⌜ ((fs : List ℕ) (n : ℕ) → read (many names (number slot 513)) (now (image .entry)) finds ≡ done fs n → r ≡ loopOf sort fs (slotsOf names count (now (image .entry)) (now (starts .entry))) count) ⌝ }
+    ensures { λ r. ⌜ r ≡ loopOf sort (findsAt names (now (image .entry)) finds) (slotsOf names count (now (image .entry)) (now (starts .entry))) count ⌝ }
 {
     if loops::none_leads(image, starts, count, sort) {
         return Lowest::Nowhere;
@@ -110,13 +108,17 @@ fn judge(image: &[u8], starts: &[usize], frame: Frame) -> Reading
     or_refuse(7, lost, or_refuse(8, newtype, last))
 }
 
-// Reads an image into a table of where its slots start, as far as they are read.
+// Reads an image into a table of where its slots start, as far as they are read. The layers above are handed as many places as
+// there are slots.
 pub fn read_into(image: &[u8], starts: &mut [usize]) -> Reading
     requires { ⌜ 512 ≤ length (now starts) ⌝ }
     ensures { λ r. ⌜ Answered (now (image .entry)) (now (starts .entry)) (now (starts .exit)) r ⌝ }
 {
     match image::read_image(image, starts) {
-        Framed::Read(frame) => judge(image, starts, frame),
+        Framed::Read(frame) => {
+            let count = frame.slots as usize;
+            judge(image, &starts[0..count], frame)
+        }
         Framed::Refused(r, q) => Reading::Refused(r, q),
     }
 }

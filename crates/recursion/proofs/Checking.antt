@@ -17,9 +17,8 @@ use Rattle.image.specs.Schema.{Schema, slotOf}
 use Rattle.image.specs.declared.Frame.{Frame}
 use Rattle.reader.specs.Reading.{schemaOf}
 use Rattle.reader.specs.Promise.{Promise}
-use Rattle.view.specs.Take.{Takes}
 use Rattle.view.proofs.Fetching.{Behind}
-use Rattle.view.proofs.Taking.{span-taken}
+use Rattle.view.proofs.Taking.{Takes, span-taken}
 use Rattle.findings.specs.Finding.{finding, rowsOf, noted}
 use Rattle.findings.specs.Adding.{Adds}
 use Rattle.findings.specs.Endless.{endlessAt, endlessOf}

@@ -19,7 +19,7 @@ use Rattle.reader.specs.Reading.{schemaOf}
 use Rattle.reader.specs.Promise.{Promise}
 use Rattle.view.specs.Part.{partAt}
 use Rattle.view.specs.declared.Part.{Part}
-use Rattle.view.proofs.Fetching.{part-behind, not-missing}
+use Rattle.reader.proofs.Fetching.{part-behind, not-missing}
 use Rattle.sizes.specs.Widths.{highest, enumBits, bytesTo, flagsBytes, enumBitsAt, flagsBytesAt}
 use Rattle.sizes.specs.declared.Size.the-variants.{Fixed, Bounded, Open}
 use Rattle.sizes.specs.Names.{State}

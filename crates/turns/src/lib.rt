@@ -115,7 +115,10 @@ pub fn compute_sizes(image: &[u8], sizes: &mut [u64]) -> Sizing
 {
     let mut starts = [0usize; 512];
     match reader::read_into(image, &mut starts) {
-        Reading::Accepted(frame) => size_slots(image, &starts, frame, sizes),
+        Reading::Accepted(frame) => {
+            let count = frame.slots as usize;
+            size_slots(image, &starts[0..count], frame, sizes)
+        }
         Reading::Refused(r, q) => {
             table::clear(sizes);
             Sizing::Refused(r, q as u64)

@@ -109,10 +109,14 @@ pub fn check(image: &[u8], sizes: &mut [u64], findings: &mut [u32]) -> Verdict
     table::clear_findings(findings);
     let mut starts = [0usize; 512];
     match reader::read_into(image, &mut starts) {
-        Reading::Accepted(frame) => match turns::size_slots(image, &starts, frame, sizes) {
-            Sizing::Accepted => find(image, &starts, frame, sizes, findings),
-            Sizing::Refused(number, place) => Verdict::Refused(number, place),
-        },
+        Reading::Accepted(frame) => {
+            let count = frame.slots as usize;
+            let slots = &starts[0..count];
+            match turns::size_slots(image, slots, frame, sizes) {
+                Sizing::Accepted => find(image, slots, frame, sizes, findings),
+                Sizing::Refused(number, place) => Verdict::Refused(number, place),
+            }
+        }
         Reading::Refused(number, place) => {
             table::clear(sizes);
             Verdict::Refused(number, place as u64)

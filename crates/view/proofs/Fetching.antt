@@ -1,4 +1,4 @@
--- Fetching a slot's part, and what an accepted image promises of it. Assumes nothing.
+-- Fetching a slot's part: by the code's steps, and of a slot that was read. Assumes nothing.
 use Prim.Native.Nat.{ℕ, _≤_, _<_}
 use mathlib.Core.Path.{_≡_, refl, sym, _∙_}
 use mathlib.Core.List.{List}
@@ -6,12 +6,8 @@ use native.Mathlib.Omega.{arith}
 use lib.ListN.{length, getD}
 use borrow.Author.Tests.{le-ltb, lt-ltb}
 use Rattle.number.specs.Grammar.{done, refused, below, read}
-use Rattle.slot.specs.Slot.{Slot, slotKind, slotBodyAt}
+use Rattle.slot.specs.Slot.{Slot, slotKind, slotBodyAt, slotAt}
 use Rattle.slot.proofs.Whole.{slot-parts}
-use Rattle.image.specs.Schema.{slotOf}
-use Rattle.image.specs.declared.Frame.{Frame}
-use Rattle.reader.specs.Reading.{schemaOf}
-use Rattle.reader.specs.Promise.{Promise}
 use Rattle.view.specs.Part.{partAt}
 use Rattle.view.specs.declared.Part.{Part}
 
@@ -37,27 +33,23 @@ pub record Behind (names : ℕ) (s : List ℕ) (x : Slot) (kind body : ℕ) : Ty
 pub body-at : {names : ℕ} {s : List ℕ} {x : Slot} {kind body : ℕ} (b : Behind names s x kind body) (k : ℕ) → kind ≡ k → read (slotBodyAt names k) s body ≡ done x (b .end)
 body-at b k e = rw e at (b .reads)
 
-module _ (s starts : List ℕ) (f : Frame) (promise : Promise s starts f) (k : ℕ) (h : k < f .slots) where
-  -- the part of each slot is there
-  pub part-is : (body : ℕ) × (partAt s starts k ≡ Part.At (slotKind (slotOf (schemaOf s) k)) body)
-      × Behind (f .names) s (slotOf (schemaOf s) k) (slotKind (slotOf (schemaOf s) k)) body
-  part-is =
-      let r = promise .slots k h in
-      let p = slot-parts s (f .names) (getD starts k 0) (slotOf (schemaOf s) k) (r .0) (r .1) in
-      let room = promise .room in (
+-- slot k was read where the table says
+module _ (names : ℕ) (s starts : List ℕ) (k : ℕ) (h : k < length starts) (x : Slot) (end : ℕ) (e : read (slotAt names) s (getD starts k 0) ≡ done x end) where
+  -- its part is there
+  pub part-there : (body : ℕ) × (partAt s starts k ≡ Part.At (slotKind x) body) × Behind names s x (slotKind x) body
+  part-there =
+      let p = slot-parts s names (getD starts k 0) x end e in (
         p .body,
-        sym (fetched s starts k (omega arith) _ _ (p .kindRead)),
-        record { kindIs = refl; end = r .0; reads = p .bodyRead },
+        sym (fetched s starts k h _ _ (p .kindRead)),
+        record { kindIs = refl; end = end; reads = p .bodyRead },
       )
 
   -- what the answer of fetching it says
-  pub part-behind : (kind body : ℕ) → partAt s starts k ≡ Part.At kind body → Behind (f .names) s (slotOf (schemaOf s) k) kind body
-  part-behind kind body e = go (part-is .0) (sym (part-is .1) ∙ e) (part-is .2)
+  pub part-holds : (kind body : ℕ) → partAt s starts k ≡ Part.At kind body → Behind names s x kind body
+  part-holds kind body q = go (part-there .0) (sym (part-there .1) ∙ q) (part-there .2)
     where
-      go : (b : ℕ) → Part.At (slotKind (slotOf (schemaOf s) k)) b ≡ Part.At kind body
-          → Behind (f .names) s (slotOf (schemaOf s) k) (slotKind (slotOf (schemaOf s) k)) b → Behind (f .names) s (slotOf (schemaOf s) k) kind body
-      go b q h = let a : slotKind (slotOf (schemaOf s) k) ≡ kind = cc in let d : b ≡ body = cc in
-          record { kindIs = a; end = h .end; reads = rw (← a, ← d) (h .reads) }
+      go : (b : ℕ) → Part.At (slotKind x) b ≡ Part.At kind body → Behind names s x (slotKind x) b → Behind names s x kind body
+      go b q h = let a : slotKind x ≡ kind = cc in let d : b ≡ body = cc in record { kindIs = a; end = h .end; reads = rw (← a, ← d) (h .reads) }
 
-  pub not-missing : partAt s starts k ≡ Part.Missing → ⊥
-  not-missing e = let p = part-is .1 in let z : _≡_ {A = ℕ} 0 1 = cc in omega arith
+  pub not-absent : partAt s starts k ≡ Part.Missing → ⊥
+  not-absent q = let p = part-there .1 in let z : _≡_ {A = ℕ} 0 1 = cc in omega arith

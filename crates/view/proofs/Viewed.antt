@@ -29,6 +29,7 @@ use denote.Triple.Clauses.{Clauses, Ended, ensured, lasts, closing}
 use denote.Triple.Spec.{tripleOf}
 use denote.Triple.Statement.{Contract}
 use Rattle.view.specs.Part.{partAt}
+use Rattle.view.specs.Inside.{insideAt}
 use Rattle.view.specs.declared.Part.{Part}
 use Rattle.view.specs.declared.View.{View}
 use Rattle.view.proofs.View as T
@@ -46,6 +47,10 @@ L κs = T′.the-laws (namedLft 2 0 tt κs) (namedLft 2 1 tt κs)
 -- what fetching a slot's part says
 abbrev pub Parted : View → ℕ → Part → Type 0
 Parted v k r = r ≡ partAt (now (v .image)) (now (v .starts)) k
+
+-- what fetching the place of what it is made of says
+abbrev pub Placed : View → ℕ → ℕ → Type 0
+Placed v k r = r ≡ insideAt (now (v .image)) (now (v .starts)) k
 
 -- a slice's machine value, and what the two slices own
 abbrev pub valueOf : RefT (List ℕ) → Val

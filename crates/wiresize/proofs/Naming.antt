@@ -21,7 +21,8 @@ use Rattle.reader.specs.Reading.{schemaOf}
 use Rattle.reader.specs.Promise.{Promise}
 use Rattle.view.specs.Part.{partAt}
 use Rattle.view.specs.declared.Part.{Part}
-use Rattle.view.proofs.Fetching.{part-behind, body-at}
+use Rattle.view.proofs.Fetching.{body-at}
+use Rattle.reader.proofs.Fetching.{part-behind}
 use Rattle.sizes.specs.declared.Size.{Size}
 use Rattle.sizes.specs.declared.Size.the-variants.{Fixed, Bounded, Open}
 use Rattle.sizes.specs.declared.Worked.{Worked}

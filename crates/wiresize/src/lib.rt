@@ -392,24 +392,24 @@ fn named_type_wire_size(
     if let Row::Known(worked) = known_size(rows, slot) {
         return worked;
     }
-    let Part::At(kind, body) = view::slot_part(image, starts, slot) else {
+    let Part::At(kind, _) = view::slot_part(image, starts, slot) else {
         return Worked::Sized(Size::Open(0));
     };
     match kind {
         1 => {
             let mut inside = *working;
             inside[slot] = true;
-            let place = view::fields_place(image, body);
+            let place = view::slot_inside(image, starts, slot);
             compute_message_wire_size(image, starts, frame, rows, place, &inside)
         }
         4 => {
             let mut inside = *working;
             inside[slot] = true;
-            let place = view::variants_place(image, body);
+            let place = view::slot_inside(image, starts, slot);
             compute_union_wire_size(image, starts, frame, rows, place, &inside)
         }
         5 => {
-            let place = view::terminal_place(image, body, frame.names);
+            let place = view::slot_inside(image, starts, slot);
             let term = compute_resolved_type_wire_size(image, starts, frame, rows, place, working);
             term.worked
         }
@@ -532,18 +532,18 @@ pub fn own_size(image: &[u8], starts: &[usize], frame: Frame, rows: &[u64], slot
     requires { ⌜ Promise (now image) (now starts) frame × (slot < frame .slots) × (3 * frame .slots ≤ length (now rows)) × Held (now image) (now rows) ⌝ }
     ensures { λ r. ⌜ Owns (now (image .entry)) (now (rows .entry)) slot r ⌝ }
 {
-    let Part::At(kind, body) = view::slot_part(image, starts, slot) else {
+    let Part::At(kind, _) = view::slot_part(image, starts, slot) else {
         return Turned::Other;
     };
     let mut own = [false; 512];
     own[slot] = true;
     match kind {
         1 => {
-            let place = view::fields_place(image, body);
+            let place = view::slot_inside(image, starts, slot);
             turn_from(compute_message_wire_size(image, starts, frame, rows, place, &own))
         }
         4 => {
-            let place = view::variants_place(image, body);
+            let place = view::slot_inside(image, starts, slot);
             turn_from(compute_union_wire_size(image, starts, frame, rows, place, &own))
         }
         _ => Turned::Other,

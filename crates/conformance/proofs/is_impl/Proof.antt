@@ -1,7 +1,7 @@
 use Prim.Native.Nat.{ℕ}
 use mathlib.Core.Path.{sym, ap, _∙_}
 use lib.Dec.{eqb}
-use Rattle.view.proofs.Fetching.{part-behind, not-missing}
+use Rattle.reader.proofs.Fetching.{part-behind, not-missing}
 use borrow.Author.Needs.{needs}
 use Rattle.conformance.proofs.is_impl.Statement.{statement}
 use Rattle.conformance.proofs.is_impl.Tie as tie

@@ -1,3 +1,4 @@
+use Rattle.view.proofs.Taking.{takes}
 use Rattle.conformance.proofs.Bodies.{trait-is}
 use borrow.Author.Needs.{needs}
 use Rattle.conformance.proofs.read_trait.Statement.{statement}
@@ -12,4 +13,4 @@ read-trait-spec =
     (λ c κs. search needs)
     (λ c κs. search needs)
     (λ c κs. search needs)
-    (λ c. trait-is _ _ _ _ _ (c .before .before .before .before .take .ensures) _ (c .before .before .skip-numbers .ensures) _ (c .before .place-of .ensures) _ _ (c .take2 .ensures)))
+    (λ c. trait-is _ _ _ _ _ (takes _ _ (c .before .before .before .before .take .ensures)) _ (c .before .before .skip-numbers .ensures) _ (c .before .place-of .ensures) _ _ (takes _ _ (c .take2 .ensures))))

@@ -1,6 +1,6 @@
 -- The tree's head, and then its children one level down: the measure is the levels left. Assumes nothing.
 use mathlib.Core.Path.{sym, ap, _∙_}
-use Rattle.loops.specs.Marks.{placeOf}
+use Rattle.view.specs.Take.{placeOf}
 use Rattle.loops.proofs.Marking.{walk-deep, walk-leaf, walk-one, walk-past-one, walk-two, walk-past-two, walk-sized, walk-generic, walk-refused}
 use native.Mathlib.Omega.{arith}
 use borrow.Author.Needs.{needs}
@@ -13,7 +13,7 @@ use Rattle.loops.proofs.+mark_tree.Lts-mark_tree as mark-tree-lts
 use Rattle.loops.proofs.goes_in.Reads as goes-in-reads
 use Rattle.loops.proofs.mark_generic.Reads as mark-generic-reads
 use Rattle.loops.proofs.mark_leaf.Reads as mark-leaf-reads
-use Rattle.loops.proofs.place.Reads as place-reads
+use Rattle.view.proofs.place_of.Reads as place-of-reads
 use Rattle.number.proofs.skip_whole.Reads as skip-whole-reads
 use Rattle.tree.proofs.read_head.Reads as read-head-reads
 use Rattle.tree.proofs.read_tree.Reads as read-tree-reads
@@ -42,8 +42,8 @@ mark-tree-known t = (
   mark-tree.Post,
   read-tree-reads.Asked,
   read-tree-reads.Learnt,
-  place-reads.Asked,
-  place-reads.Learnt,
+  place-of-reads.Asked,
+  place-of-reads.Learnt,
   skip-whole-reads.Asked,
   skip-whole-reads.Learnt,
   mark-generic-reads.Asked,
@@ -60,16 +60,16 @@ mark-tree-returns-3 : (t : ℕ) → mark-tree-lts.Need-returns-3 (mark-tree-know
 mark-tree-returns-3 t c = walk-one _ _ _ _ _ _ _ _ (c .before .before .before .before .before .before .before .before .before .before .if1 .left) _ _ _ _ (sym (c .before .before .before .before .before .before .before .before .before .read-head .ensures) ∙ c .before .before .before .before .before .before .before .kind2 .given .1) (sym (c .before .before .before .before .if2 .taken) ∙ c .before .before .before .before .before .goes-in .ensures) (c .before .before .mark-tree .ensures)
 
 mark-tree-returns-4 : (t : ℕ) → mark-tree-lts.Need-returns-4 (mark-tree-known t) (mark-tree-at t) mark-tree.Post
-mark-tree-returns-4 t c = walk-past-one _ _ _ _ _ _ _ _ (c .before .before .before .before .before .before .before .before .if1 .left) _ _ _ (c .before .before .before .before .before .before .before .before .before .before .before .before .pre .1 .0) (sym (c .before .before .before .before .before .before .before .read-head .ensures) ∙ c .before .before .before .before .before .kind2 .given .1) (sym (c .before .before .if2 .left) ∙ c .before .before .before .goes-in .ensures) (c .place .ensures ∙ ap placeOf (c .before .read-tree .ensures))
+mark-tree-returns-4 t c = walk-past-one _ _ _ _ _ _ _ _ (c .before .before .before .before .before .before .before .before .if1 .left) _ _ _ (c .before .before .before .before .before .before .before .before .before .before .before .before .pre .1 .0) (sym (c .before .before .before .before .before .before .before .read-head .ensures) ∙ c .before .before .before .before .before .kind2 .given .1) (sym (c .before .before .if2 .left) ∙ c .before .before .before .goes-in .ensures) (c .place-of .ensures ∙ ap placeOf (c .before .read-tree .ensures))
 
 mark-tree-returns-5 : (t : ℕ) → mark-tree-lts.Need-returns-5 (mark-tree-known t) (mark-tree-at t) mark-tree.Post
 mark-tree-returns-5 t c = walk-two _ _ _ _ _ _ _ _ (c .before .before .before .before .before .before .before .before .before .before .before .before .before .before .if1 .left) _ _ _ _ _ _ (sym (c .before .before .before .before .before .before .before .before .before .before .before .before .before .read-head .ensures) ∙ c .before .before .before .before .before .before .before .before .before .before .before .kind3 .given .1) (sym (c .before .before .before .before .before .before .before .before .if3 .taken) ∙ c .before .before .before .before .before .before .before .before .before .goes-in2 .ensures) (c .before .before .before .before .before .before .mark-tree2 .ensures) (c .before .before .mark-tree3 .ensures)
 
 mark-tree-returns-6 : (t : ℕ) → mark-tree-lts.Need-returns-6 (mark-tree-known t) (mark-tree-at t) mark-tree.Post
-mark-tree-returns-6 t c = walk-past-two _ _ _ _ _ _ _ _ (c .before .before .before .before .before .before .before .before .before .before .if1 .left) _ _ _ _ (c .before .before .before .before .before .before .before .before .before .before .before .before .before .before .pre .1 .0) (sym (c .before .before .before .before .before .before .before .before .before .read-head .ensures) ∙ c .before .before .before .before .before .before .before .kind3 .given .1) (sym (c .before .before .before .before .if3 .left) ∙ c .before .before .before .before .before .goes-in2 .ensures) (c .before .before .place2 .ensures ∙ ap placeOf (c .before .before .before .read-tree2 .ensures)) (c .place3 .ensures ∙ ap placeOf (c .before .read-tree3 .ensures))
+mark-tree-returns-6 t c = walk-past-two _ _ _ _ _ _ _ _ (c .before .before .before .before .before .before .before .before .before .before .if1 .left) _ _ _ _ (c .before .before .before .before .before .before .before .before .before .before .before .before .before .before .pre .1 .0) (sym (c .before .before .before .before .before .before .before .before .before .read-head .ensures) ∙ c .before .before .before .before .before .before .before .kind3 .given .1) (sym (c .before .before .before .before .if3 .left) ∙ c .before .before .before .before .before .goes-in2 .ensures) (c .before .before .place-of2 .ensures ∙ ap placeOf (c .before .before .before .read-tree2 .ensures)) (c .place-of3 .ensures ∙ ap placeOf (c .before .read-tree3 .ensures))
 
 mark-tree-returns-7 : (t : ℕ) → mark-tree-lts.Need-returns-7 (mark-tree-known t) (mark-tree-at t) mark-tree.Post
-mark-tree-returns-7 t c = walk-sized _ _ _ _ _ _ _ _ (c .before .before .before .before .before .before .before .before .before .before .if1 .left) _ _ _ _ (sym (c .before .before .before .before .before .before .before .before .before .read-head .ensures) ∙ c .before .before .before .before .before .before .before .body .given .1) (c .before .before .before .before .mark-tree4 .ensures) (c .place4 .ensures ∙ ap placeOf (c .before .skip-whole .ensures))
+mark-tree-returns-7 t c = walk-sized _ _ _ _ _ _ _ _ (c .before .before .before .before .before .before .before .before .before .before .if1 .left) _ _ _ _ (sym (c .before .before .before .before .before .before .before .before .before .read-head .ensures) ∙ c .before .before .before .before .before .before .before .body .given .1) (c .before .before .before .before .mark-tree4 .ensures) (c .place-of4 .ensures ∙ ap placeOf (c .before .skip-whole .ensures))
 
 mark-tree-returns-8 : (t : ℕ) → mark-tree-lts.Need-returns-8 (mark-tree-known t) (mark-tree-at t) mark-tree.Post
 mark-tree-returns-8 t c = walk-generic _ _ _ _ _ _ _ _ (c .before .before .before .before .before .before .before .before .before .before .before .before .if1 .left) _ _ _ _ _ (sym (c .before .before .before .before .before .before .before .before .before .before .before .read-head .ensures) ∙ c .before .before .before .before .before .before .before .before .before .name .given .1) (c .before .before .before .before .before .before .mark-generic .ensures) (c .before .before .mark-tree5 .ensures)

@@ -19,11 +19,9 @@ fill-rows-spec =
     Inv-loop
     μ-loop
     (λ c. rows-start _ _ _ _ _ _ _ (c .before .before .before .before .pre .0))
-    (λ c. omega (arith, c .before .before .before .before .before .before .pre .1 .few))
-    (λ c. omega (arith, c .before .before .before .before .before .before .before .pre .1 .room))
-    (λ c κs. (c .before .before .before .loop .inv .1 .long, omega (arith, c .before .before .before .before .before .before .before .before .pre .1 .few)))
+    (λ c κs. (c .before .before .loop .inv .1 .long, omega (arith, c .before .before .before .before .before .before .before .pre .1 .few)))
     (λ c. omega arith)
     (λ c. omega arith)
-    (λ c. rows-on _ _ _ _ _ _ (c .before .before .before .before .before .before .before .before .before .before .before .pre .1) _ _ _ _ (c .before .before .before .before .before .loop-test .taken) (c .before .before .before .before .before .before .loop .inv) (c .before .before .slot-row .ensures))
+    (λ c. rows-on _ _ _ _ _ _ (c .before .before .before .before .before .before .before .before .before .before .pre .1) _ _ _ _ (c .before .before .before .before .loop-test .taken) (c .before .before .before .before .before .loop .inv) (c .before .before .slot-row .ensures))
     (λ c. search needs)
     (λ c. rows-end _ _ _ _ _ _ _ _ _ (c .loop-test .left) (c .before .loop .inv)))

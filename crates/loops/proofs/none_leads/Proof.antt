@@ -23,13 +23,9 @@ none-leads-spec =
     Inv-loop
     μ-loop
     (λ c. (omega arith, λ names p. none-first _ _))
-    (λ c. omega (arith, c .before .before .before .before .pre .1 .few))
-    (λ c. omega (arith, c .before .before .before .before .before .pre .1 .room))
     (λ c κs. search needs)
-    (λ c. search needs)
-    (λ c names p. stopped _ _ _ _ _ p _ (c .before .before .before .before .loop-test .taken) _ (rw (c .enum-told .given .1) at (c .before .before .body-of .ensures)))
-    (λ c. search needs)
+    (λ c names p. stopped _ _ _ _ _ p _ (c .before .before .loop-test .taken) _ (c .before .is-lead .ensures) (c .if1 .taken))
     (λ c. omega arith)
     (λ c. omega arith)
-    (λ c. (omega arith, λ names p. passed _ _ _ _ _ p _ (c .before .before .before .before .loop-test .taken) (c .before .before .before .before .before .loop .inv .1 names p) (rw (c .enum-told2 .given .1) at (c .before .before .body-of .ensures))))
+    (λ c. (omega arith, λ names p. passed _ _ _ _ _ p _ (c .before .before .loop-test .taken) _ (c .before .is-lead .ensures) (c .before .before .before .loop .inv .1 names p) (c .if1 .left)))
     (λ c names p. none-all _ _ _ _ (c .before .loop .inv .0) (c .loop-test .left) (c .before .loop .inv .1 names p)))

@@ -9,10 +9,8 @@ slot-row-spec =
     tie.close
     (tie.spec
     (λ c κs. search needs)
-    (λ c. search needs)
     (λ c κs. search needs)
     (λ c κs. search needs)
     (λ c. search needs)
-    (λ c. search needs)
-    (λ c. row-of _ _ _ _ _ _ _ _ _ _ _ (rw (c .before .before .before .before .before .before .body .given .1) at (c .before .before .before .before .before .before .before .before .body-of .ensures)) (c .before .before .before .before .tree-start .ensures) (c .before .before .mark-tree .ensures))
-    (λ c. row-none _ _ _ _ _ _ _ (c .before .before .before .before .before .before .pre .0) (rw (c .enum-told .given .1) at (c .before .before .body-of .ensures))))
+    (λ c. row-of _ _ _ _ _ _ _ _ (c .before .before .before .before .before .before .is-lead .ensures) (c .before .before .before .before .before .if1 .taken) _ _ _ (c .before .before .before .before .slot-inside .ensures) (c .before .before .mark-tree .ensures))
+    (λ c. row-none _ _ _ _ _ _ _ _ (c .before .is-lead .ensures) (c .if1 .left) (c .before .before .before .before .before .before .pre .0)))

@@ -1,6 +1,6 @@
 use native.Mathlib.Omega.{arith}
 use mathlib.Core.Path.{sym, _∙_}
-use Rattle.view.proofs.Fetching.{part-behind, not-missing}
+use Rattle.reader.proofs.Fetching.{part-behind, not-missing}
 use Rattle.order.proofs.Leading.{leads-lower, leads-past, leads-bare, leads-free}
 use borrow.Author.Needs.{needs}
 use Rattle.order.proofs.leads_on.Statement.{statement}

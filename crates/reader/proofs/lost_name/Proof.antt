@@ -1,9 +1,10 @@
 use borrow.Author.Needs.{needs}
 use native.Mathlib.Omega.{arith}
 use Prim.Native.Nat.{_-_}
+use mathlib.Core.Path.{_∙_}
 use Rattle.number.proofs.Reading.{told}
 use Rattle.loops.specs.Leads.{slotsOf}
-use Rattle.reader.proofs.Losing.{Turn, first-turn, last-turn, stop-turn, found-turn, next-turn}
+use Rattle.reader.proofs.Losing.{lost-is, Turn, first-turn, last-turn, stop-turn, found-turn, next-turn}
 use Rattle.reader.proofs.lost_name.Statement.{statement}
 use Rattle.reader.proofs.lost_name.Tie as tie
 
@@ -22,11 +23,11 @@ lost-name-spec =
     (λ c. first-turn _ _ _ _)
     (λ c κs. search needs)
     (λ c. search needs)
-    (λ c κs. c .before .before .before .before .before .before .before .before .pre)
-    (λ c. found-turn _ _ _ _ _ _ (c .before .before .before .before .before .before .before .loop .inv) (c .before .before .before .before .before .before .loop-test .taken) _ _ (told (c .before .before .before .before .before .read-below .ensures) (c .before .before .before .find .given .1)) _ (c .before .is-lost .ensures) (c .if1 .taken))
+    (λ c κs. search needs)
+    (λ c. found-turn _ _ _ _ _ _ (c .before .before .before .before .before .before .before .loop .inv) (c .before .before .before .before .before .before .loop-test .taken) _ _ (told (c .before .before .before .before .before .read-below .ensures) (c .before .before .before .find .given .1)) _ (c .before .is-lost .ensures ∙ lost-is _ _ _ _ (c .before .before .before .before .before .before .before .before .before .before .pre) _) (c .if1 .taken))
     (λ c. omega arith)
     (λ c. omega arith)
-    (λ c. next-turn _ _ _ _ _ _ (c .before .before .before .before .before .before .before .loop .inv) (c .before .before .before .before .before .before .loop-test .taken) _ _ (told (c .before .before .before .before .before .read-below .ensures) (c .before .before .before .find .given .1)) _ (c .before .is-lost .ensures) (c .if1 .left))
+    (λ c. next-turn _ _ _ _ _ _ (c .before .before .before .before .before .before .before .loop .inv) (c .before .before .before .before .before .before .loop-test .taken) _ _ (told (c .before .before .before .before .before .read-below .ensures) (c .before .before .before .find .given .1)) _ (c .before .is-lost .ensures ∙ lost-is _ _ _ _ (c .before .before .before .before .before .before .before .before .before .before .pre) _) (c .if1 .left))
     (λ c. search needs)
     (λ c. stop-turn _ _ _ _ _ _ (c .before .before .before .before .before .loop .inv) (c .before .before .before .before .loop-test .taken) _ _ (told (c .before .before .before .read-below .ensures) (c .before .q .given .1)) _)
     (λ c. last-turn _ _ _ _ _ _ (c .before .loop .inv) (c .loop-test .left)))

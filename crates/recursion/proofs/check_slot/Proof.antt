@@ -1,6 +1,6 @@
 use native.Mathlib.Omega.{arith}
 use mathlib.Core.Path.{sym, _∙_}
-use Rattle.view.proofs.Fetching.{part-behind, not-missing}
+use Rattle.reader.proofs.Fetching.{part-behind, not-missing}
 use Rattle.recursion.proofs.Checking.{countable, slot-past, slot-not, slot-free, slot-found}
 use borrow.Author.Needs.{needs}
 use Rattle.recursion.proofs.check_slot.Statement.{statement}

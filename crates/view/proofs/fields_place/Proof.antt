@@ -1,8 +1,14 @@
-use Rattle.view.proofs.Places.{at-place, fields-stand}
+use mathlib.Core.Path.{ap, _∙_}
+use Rattle.number.specs.Answers.{follow}
+use Rattle.view.specs.Take.{placeOf}
+use Rattle.view.specs.Inside.{fieldsPlace}
 use borrow.Author.Needs.{needs}
 use Rattle.view.proofs.fields_place.Statement.{statement}
 use Rattle.view.proofs.fields_place.Tie as tie
 
+returns : tie.Need-returns
+unfolding fieldsPlace follow
+returns c = c .place-of .ensures ∙ ap placeOf (rw (c .before .before .skip-span .ensures) at (c .before .skip-stored .ensures))
+
 pub fields-place-spec : {M : Type 1} → statement M
-fields-place-spec =
-    tie.close (tie.spec (λ c κs. search needs) (λ c κs. search needs) (λ c κs. search needs) (λ c. λ names m end q. let p = fields-stand _ _ _ m end q _ _ (c .before .before .skip-span .ensures) (c .before .skip-stored .ensures) in at-place _ _ (p .2) (c .place-of .ensures _ (p .1))))
+fields-place-spec = tie.close (tie.spec (λ c κs. search needs) (λ c κs. search needs) (λ c κs. search needs) returns)
