@@ -6,7 +6,7 @@ use std::path::Path;
 use std::process::{Command, ExitCode};
 use std::time::Instant;
 
-use oracle::answer::{answer, lines, PROGRAM_PLACES};
+use oracle::answer::{lines, Answer, TooLong, Whole, PATIENT_STEP_LIMIT, PROGRAM_PLACES};
 use oracle::bench::bench;
 use oracle::compare::{compare, exhaustive, smallest_difference, Difference, Outcome, Selection};
 use oracle::example::bond_report;
@@ -332,13 +332,17 @@ fn run_lengths(options: &[String]) -> Result<bool, Failure> {
 fn run_answer() -> Result<(), Failure> {
     let text = match image_from_input() {
         Err(_) => "vexil-typeck 1\nrefused 0 0\n".into(),
-        Ok(image) => match on_long_stack(|| answer(&image, PROGRAM_PLACES)) {
+        Ok(image) => match on_long_stack(|| patient_answer(&image)) {
             Ok(answer) => lines(&answer),
             Err(_) => return Err("the check would take too long".into()),
         },
     };
     print!("{text}");
     Ok(())
+}
+
+fn patient_answer(image: &[u8]) -> Result<Answer, TooLong> {
+    Whole::within(image, PATIENT_STEP_LIMIT).answer(PROGRAM_PLACES)
 }
 
 /// Prints a difference, if any, and the summary line.

@@ -7,7 +7,7 @@ use std::io;
 use std::ops::ControlFlow;
 use std::process::{Command, Stdio};
 
-use crate::answer::{answer, lines, PROGRAM_PLACES};
+use crate::answer::{lines, Whole, PATIENT_STEP_LIMIT, PROGRAM_PLACES};
 use crate::compare::{each_image, Selection};
 use crate::program::{give, Fault, Wrong};
 use crate::stack::{self, Case, Subject};
@@ -95,7 +95,8 @@ impl Stress<'_> {
         if !self.seen.insert(image.to_vec()) {
             return Ok(ControlFlow::Continue(()));
         }
-        let Ok(answer) = answer(image, PROGRAM_PLACES) else {
+        let whole = Whole::within(image, PATIENT_STEP_LIMIT);
+        let Ok(answer) = whole.answer(PROGRAM_PLACES) else {
             self.outcome.too_long += 1;
             return Ok(ControlFlow::Continue(()));
         };

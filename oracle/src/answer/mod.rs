@@ -20,7 +20,7 @@ pub use fields::{each_wanted, Wanted};
 pub use kinds::FieldCounts;
 pub use limit::{Operation, Part, PassedLimit};
 pub use parts::{expression_kind, type_kind, type_parts};
-pub use steps::TooLong;
+pub use steps::{TooLong, PATIENT_STEP_LIMIT};
 pub use whole::{Classes, Unions, Whole};
 
 /// Lent places: u64 for sizes, u32 for findings.

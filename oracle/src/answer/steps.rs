@@ -12,6 +12,9 @@ pub struct TooLong;
 
 /// Most steps of an image that is still checked.
 pub const STEP_LIMIT: u64 = 400_000;
+/// The same where there are few images: chains of 512 slots that are declared
+/// from the outermost on take millions.
+pub const PATIENT_STEP_LIMIT: u64 = 20_000_000;
 
 pub struct Steps {
     left: u64,

@@ -57,15 +57,20 @@ pub struct Whole {
 impl Whole {
     /// Sizes and findings.
     pub fn of(image: &[u8]) -> Self {
-        Self::worked(image, true)
+        Self::within(image, STEP_LIMIT)
+    }
+
+    /// Sizes and findings, if they take so many steps at most.
+    pub fn within(image: &[u8], steps: u64) -> Self {
+        Self::worked(image, true, steps)
     }
 
     /// Sizes alone; the findings are left out as if they took too long.
     pub fn sizes_of(image: &[u8]) -> Self {
-        Self::worked(image, false)
+        Self::worked(image, false, STEP_LIMIT)
     }
 
-    fn worked(image: &[u8], with_findings: bool) -> Self {
+    fn worked(image: &[u8], with_findings: bool, steps: u64) -> Self {
         let mut whole = Self {
             starts: Vec::new(),
             deepest: 0,
@@ -77,15 +82,15 @@ impl Whole {
         match import(image) {
             Ok(imported) => {
                 whole.starts = imported.starts;
-                whole.work_out(imported.schema, with_findings);
+                whole.work_out(imported.schema, with_findings, steps);
             }
             Err(refusal) => whole.sizes = Err(Failure::Read(refusal)),
         }
         whole
     }
 
-    fn work_out(&mut self, mut schema: CompiledSchema, with_findings: bool) {
-        let mut steps = Steps::new(&schema, STEP_LIMIT);
+    fn work_out(&mut self, mut schema: CompiledSchema, with_findings: bool, steps: u64) {
+        let mut steps = Steps::new(&schema, steps);
         let expected = size_table(&schema, &mut steps);
         self.deepest = steps.deepest();
         let expected = match expected {
