@@ -7,7 +7,7 @@ use native.Mathlib.Omega.{arith}
 use lib.Dec.{eqb}
 use lib.ListN.{getD, length, replicate, length-replicate, List·getD-eq-default}
 use borrow.Author.Tests.{ne-eqb}
-use Rattle.tree.specs.Tree.{Tree, Leaf, Wrap, Pair, leaf, wrap, fixedArray, pair, generic, primitive, subByte, semantic, named, bitsInline, qualified, optional, array, setOf, vec2, vec3, vec4, quat, mat3, mat4, mapOf, resultOf, leafKind, leafNumber, wrapKind, pairKind}
+use Rattle.tree.specs.Tree.{Tree, Leaf, Wrap, leaf, wrap, fixedArray, pair, generic, primitive, subByte, semantic, named, bitsInline, qualified, optional, array, setOf, vec2, vec3, vec4, quat, mat3, mat4, mapOf, resultOf, leafKind, leafNumber, wrapKind, pairKind}
 use Rattle.sizes.specs.declared.Size.the-variants.{Fixed, Open}
 use Rattle.sizes.specs.declared.Worked.{Worked}
 use Rattle.sizes.specs.declared.Worked.the-variants.{Sized}

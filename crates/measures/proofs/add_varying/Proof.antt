@@ -1,5 +1,4 @@
 use mathlib.Core.Path.{ap₂, _∙_}
-use Prim.Native.Nat.{ℕ, _+_, _^_, min}
 use Rattle.sizes.specs.Sizes.{both, largest}
 use Rattle.measures.specs.Cut.{cutSum, highOf}
 use Rattle.measures.proofs.Cutting.{summed}

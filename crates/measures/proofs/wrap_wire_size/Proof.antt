@@ -1,6 +1,4 @@
-use mathlib.Core.Path.{sym, ap}
-use Rattle.sizes.specs.declared.Worked.{Worked}
-use Rattle.sizes.specs.Sizes.{Count, wrapSize, then}
+use Rattle.sizes.specs.Sizes.{wrapSize, then}
 use Rattle.measures.specs.Heads.{wrapOf}
 use Rattle.measures.proofs.ByKind.{wrap-rest}
 use borrow.Author.Needs.{needs}
