@@ -1,2 +1,3 @@
+pub mod BitLength
 pub mod Mark
 pub mod Provisos
