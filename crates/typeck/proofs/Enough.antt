@@ -1,13 +1,13 @@
 -- In an image that is read the limits of findings are enough. Assumes nothing.
-use Prim.Native.Nat.{ℕ, zero, suc, _+_, _/_, _%_, _≤_, _<_}
-use mathlib.Core.Path.{_≡_, refl, sym, ap, subst, _∙_}
+use Prim.Native.Nat.{ℕ, zero, suc, _/_, _%_, _≤_, _<_}
+use mathlib.Core.Path.{_≡_, refl, sym, ap, _∙_}
 use mathlib.Core.List.{List, [], _∷_}
 use mathlib.Core.Bool.{Bool, true, false, cond, _&&_}
 use mathlib.Core.Logic.{by-cases}
 use native.Mathlib.Omega.{arith}
 use native.Mathlib.Decide.{decLt}
 use lib.Dec.{eqb}
-use lib.ListN.{length, getD, replicate, length-replicate, length-set}
+use lib.ListN.{length, getD, replicate, length-replicate}
 use lib.Seq.{sets}
 use Rattle.number.specs.Grammar.{Outcome, done, refused}
 use Rattle.tree.specs.Tree.{Tree, leaf, named, generic}
@@ -24,7 +24,7 @@ use Rattle.findings.specs.Endless.{counted, entered, left, walkName, walkSlot}
 use Rattle.findings.specs.declared.RecursionState.{RecursionState}
 use Rattle.parts.specs.Names.{slotNames, isMessage}
 use Rattle.walks.specs.Walk.{walkPart, walkParts}
-use Rattle.walks.proofs.Walking.{Whole, whole-after, slot-walk, steady}
+use Rattle.walks.proofs.Walking.{Whole, whole-after, entered-whole, slot-walk, steady}
 use Rattle.walks.proofs.Along.{inside-fewer}
 use Rattle.meanings.proofs.Heights.{within}
 use Rattle.meanings.proofs.Ended.{alias-ranked}
@@ -63,11 +63,6 @@ aliases-enough s starts f p chain h n t =
     named-same (enough s starts f p (0 ∷ []) (t ∷ []) (ofT n) chain (omega arith))
 
 -- ## Walks
-
-entered-whole : (i : ℕ) (j : Bool) (st : RecursionState) → Whole st → Whole (entered i j st)
-unfolding entered
-entered-whole i true st w = record { path = length-set (st .path) i true ∙ w .path; visited = length-set (st .visited) i true ∙ w .visited }
-entered-whole i false st w = record { path = w .path; visited = length-set (st .visited) i true ∙ w .visited }
 
 most-unvisited : (w : List Bool) → unvisited w ≤ length w
 unfolding weight

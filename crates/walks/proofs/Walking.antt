@@ -52,7 +52,7 @@ and-true : (d : Bool) → d ≡ (d && true)
 and-true true = refl
 and-true false = refl
 
-entered-whole : (i : ℕ) (j : Bool) (st : RecursionState) → Whole st → Whole (entered i j st)
+pub entered-whole : (i : ℕ) (j : Bool) (st : RecursionState) → Whole st → Whole (entered i j st)
 unfolding entered
 entered-whole i true st w = record { path = length-set (st .path) i true ∙ w .path; visited = length-set (st .visited) i true ∙ w .visited }
 entered-whole i false st w = record { path = w .path; visited = length-set (st .visited) i true ∙ w .visited }
