@@ -7,13 +7,13 @@ use mathlib.Core.Logic.{by-cases}
 use native.Mathlib.Omega.{arith}
 use native.Mathlib.Decide.{decLt}
 use lib.Dec.{eqb}
-use lib.ListN.{length, getD, replicate, length-replicate}
+use lib.ListN.{length, getD, take, replicate, length-replicate}
 use lib.Seq.{sets}
 use Rattle.number.specs.Grammar.{Outcome, done, refused}
 use Rattle.tree.specs.Tree.{Tree, leaf, named, generic}
 use Rattle.graph.specs.Loops.{weight, unvisited}
 use Rattle.image.specs.Schema.{Schema, slotOf}
-use Rattle.image.specs.Image.{Image, imageOf, frameIn, framed, startsOf}
+use Rattle.image.specs.Image.{Image, imageOf, frameIn, framed, startsOf, readableSlots}
 use Rattle.image.specs.declared.Frame.{Frame}
 use Rattle.reader.specs.Reading.{answered, readingOf, schemaOf}
 use Rattle.reader.specs.Promise.{Promise}
@@ -41,9 +41,9 @@ kept s f e = go (imageOf s) refl
 
     go : (o : Outcome Image) → imageOf s ≡ o → (starts : List ℕ) × Promise s starts f
     go (done i n) x =
-        let v = seen s blank (sets blank 0 (startsOf (i .slots))) (frameIn i) (omega (arith, length-replicate {A = ℕ} 512 0)) (sym (ap framed x))
-        (λ j m y. let q : i ≡ j = cc in ap (λ (z : Image). sets blank 0 (startsOf (z .slots))) q) in
-        (sets blank 0 (startsOf (i .slots)), promised s _ (frameIn i) v f (reading-is s _ (frameIn i) v ∙ e))
+        let l = sets blank 0 (startsOf (readableSlots s)) in
+        let v = seen s blank l (frameIn i) (omega (arith, length-replicate {A = ℕ} 512 0)) (sym (ap framed x)) refl .1 in
+        (take (frameIn i .slots) l, promised s _ (frameIn i) v f (reading-is s _ (frameIn i) v ∙ e))
     go (refused r p) x = let q : Reading.Refused r p ≡ Reading.Accepted f = sym (ap answered x) ∙ e in let z : _≡_ {A = ℕ} 0 1 = cc in absurd (omega arith)
 
 -- ## Aliases

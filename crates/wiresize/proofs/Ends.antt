@@ -1,27 +1,23 @@
 -- Chains of newtypes end in an accepted image. Assumes nothing.
-use Prim.Native.Nat.{ℕ, _≤_}
+use Prim.Native.Nat.{ℕ}
 use mathlib.Core.Path.{_≡_, refl, ap, ap₂, subst, _∙_}
-use native.Mathlib.Omega.{arith}
 use mathlib.Core.List.{List, [], _∷_, _++_, List·Memᴰ, List·Memᴰ·not-nil, List·Memᴰ·cases-cons}
 use mathlib.Core.Bool.{true, cond, or-true}
 use mathlib.Core.Logic.{⊎-elim}
 use borrow.Author.Tests.{eq-eqb}
 use lib.Dec.{eqb}
-use lib.ListN.{length, List·getD-eq-default}
-use Rattle.number.specs.Grammar.{Outcome, done, refused}
 use Rattle.tree.specs.Tree.{Tree, Leaf, Wrap, leaf, wrap, fixedArray, pair, generic, primitive, subByte, semantic, named, bitsInline, qualified, optional, array, setOf, vec2, vec3, vec4, quat, mat3, mat4, mapOf, resultOf}
 use Rattle.tree.specs.declared.Sort.the-variants.{Resolved}
 use Rattle.slot.specs.Slot.{Slot, empty, message, enum, flags, union, newtype, config, alias, trait, impl}
 use Rattle.graph.specs.Ways.{Path, step, onto, has}
 use Rattle.image.specs.Schema.{Schema, slotOf}
-use Rattle.image.specs.Image.{Image, imageOf, frameIn, schemaIn}
 use Rattle.image.specs.declared.Frame.{Frame}
 use Rattle.loops.specs.Leads.{followed, leafSlots, terminalSlots, slotLeads, leads}
-use Rattle.loops.specs.Refusals.{OnLoop, not-looped}
-use Rattle.reader.specs.Reading.{answered, readingOf, schemaOr, schemaOf}
+use Rattle.loops.specs.Refusals.{OnLoop}
+use Rattle.reader.specs.Reading.{readingOf, schemaOf}
 use Rattle.reader.specs.Promise.{Promise}
 use Rattle.reader.specs.declared.Reading.{Reading}
-use Rattle.reader.proofs.Judging.{clear}
+use Rattle.reader.proofs.Telling.{exactly}
 use Rattle.sizes.specs.Sizes.{countOf}
 use Rattle.sizes.specs.Names.{contentIn, contentOf, NamesObey}
 use Rattle.sizes.specs.Lengths.{leafParts, wrapParts, typeParts, terminalParts, terminalsOf, Reaches, atOnce, byWayOf, NewtypesEnd}
@@ -95,21 +91,6 @@ by-parts S h i r = h i (way S (S .finds) r)
 pub newtypes-end : (s starts : List ℕ) (f : Frame) → Promise s starts f → NewtypesEnd (schemaOf s)
 newtypes-end s starts f p = by-parts (schemaOf s) (p .newtypes)
 
-past-empty : (S : Schema) (i : ℕ) → length (S .slots) ≤ i → slotOf S i ≡ empty
-unfolding slotOf
-past-empty S i h = List·getD-eq-default (S .slots) empty {n = i} h
-
--- what the promise says of newtypes holds wherever the starts of the slots are kept
-read-without : (s : List ℕ) (f : Frame) → readingOf s ≡ Reading.Accepted f → NoLoop (schemaOf s)
-unfolding readingOf schemaOf
-read-without s f e = go (imageOf s) e
-  where
-    go : (o : Outcome Image) → answered o ≡ Reading.Accepted f → NoLoop (schemaOr o)
-    go (done x n) h =
-        let S = schemaIn x in
-        not-looped Resolved (S .finds) (slotOf S) (length (S .slots)) (past-empty S) (clear S (frameIn x) f h .newtypes)
-    go (refused r p) h = let z : _≡_ {A = ℕ} 0 1 = cc in absurd (omega arith)
-
 -- names go by their rule in every image that is read
 pub names-obey : (s : List ℕ) (f : Frame) → readingOf s ≡ Reading.Accepted f → NamesObey (schemaOf s)
-names-obey s f e = fuel.names-obey (schemaOf s) (by-parts (schemaOf s) (read-without s f e))
+names-obey s f e = fuel.names-obey (schemaOf s) (by-parts (schemaOf s) (exactly s refl .accepted .0 (f, e) .before .newtypes))
