@@ -17,17 +17,17 @@ use Rattle.reader.specs.Reading.{schemaOf}
 use Rattle.image.specs.Schema.{Schema}
 use Rattle.typeck.specs.Check.{judged, verdictIn, verdictOf, onAccepted, sizeTable, findingTable, Answered}
 use Rattle.typeck.specs.declared.Verdict.{Verdict}
-use Rattle.report.specs.Text.{textOf, textFor, countOf, Told}
+use Rattle.report.specs.Text.{textOf, textFor, countOf, VerdictWritten}
 
-pub accepted-told : (p : ℕ) (v : Verdict) (s f out : List ℕ) (count r : ℕ) → v ≡ Verdict.Accepted count → Small s → Small f
-    → Holds p (textOf (Verdict.Accepted count) s f) out r → Told p v s f out r
+pub accepted-written : (p : ℕ) (v : Verdict) (s f out : List ℕ) (count r : ℕ) → v ≡ Verdict.Accepted count → Small s → Small f
+    → Holds p (textOf (Verdict.Accepted count) s f) out r → VerdictWritten p v s f out r
 unfolding textOf
-accepted-told p v s f out count r e h k w = rw e (record { holds = w; most = λ l m. accepted-most s f count h k l m })
+accepted-written p v s f out count r e h k w = rw e (record { holds = w; most = λ l m. accepted-most s f count h k l m })
 
-pub refused-told : (p : ℕ) (v : Verdict) (s f out : List ℕ) (number place r : ℕ) → v ≡ Verdict.Refused number place → number < 2 ^ 64 → place < 2 ^ 64
-    → Holds p (textOf (Verdict.Refused number place) s f) out r → Told p v s f out r
+pub refused-written : (p : ℕ) (v : Verdict) (s f out : List ℕ) (number place r : ℕ) → v ≡ Verdict.Refused number place → number < 2 ^ 64 → place < 2 ^ 64
+    → Holds p (textOf (Verdict.Refused number place) s f) out r → VerdictWritten p v s f out r
 unfolding textOf
-refused-told p v s f out number place r e h k w = rw e (record { holds = w; most = λ l m. refused-most number place h k })
+refused-written p v s f out number place r e h k w = rw e (record { holds = w; most = λ l m. refused-most number place h k })
 
 -- refusal 12 keeps the count within the table
 judged-few : (q : ℕ) (S : Schema) → 6 * countOf (judged q S) ≤ q
@@ -61,7 +61,7 @@ table-long p q s = answered-long (verdictOf p q s) p (sizesOf p s) (sizes-long p
 
 -- a check with places for 512 slots and 1,000 findings
 pub text-is : (s sizes a findings b : List ℕ) (v : Verdict) (p : ℕ) (out : List ℕ) (r : ℕ) → length sizes ≡ 1536 → length findings ≡ 6000
-    → Answered s sizes a findings b v → Told p v a b out r → Written p (textFor s) out r
+    → Answered s sizes a findings b v → VerdictWritten p v a b out r → Written p (textFor s) out r
 unfolding textFor
 text-is s sizes a findings b v p out r m n d w =
     let x : v ≡ verdictOf 1536 6000 s = d .answer ∙ ap (λ (k : ℕ). verdictOf k (length findings) s) m ∙ ap (λ (k : ℕ). verdictOf 1536 k s) n in

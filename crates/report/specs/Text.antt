@@ -20,6 +20,6 @@ abbrev pub countOf : Verdict → ℕ
 countOf (Verdict.Accepted count) = count
 countOf (Verdict.Refused number place) = 0
 
-pub record Told (places : ℕ) (v : Verdict) (sizes findings out : List ℕ) (used : ℕ) : Type 0 where
+pub record VerdictWritten (places : ℕ) (v : Verdict) (sizes findings out : List ℕ) (used : ℕ) : Type 0 where
   pub holds : Holds places (textOf v sizes findings) out used
   pub most : length sizes ≤ 1536 → countOf v ≤ 1000 → length (textOf v sizes findings) ≤ 180000

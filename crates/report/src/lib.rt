@@ -2,10 +2,10 @@
 use typeck::Verdict;
 ghost use lib.ListN.{length};
 ghost use Rattle.lines.specs.Lines.{Written};
-ghost use Rattle.report.specs.Text.{textFor, Told};
+ghost use Rattle.report.specs.Text.{textFor, VerdictWritten};
 
 fn write_verdict(verdict: Verdict, sizes: &[u64], findings: &[u32], out: &mut [u8]) -> usize
-    ensures { λ r. ⌜ Told (length (now (out .entry))) verdict (now (sizes .entry)) (now (findings .entry)) (now (out .exit)) r ⌝ }
+    ensures { λ r. ⌜ VerdictWritten (length (now (out .entry))) verdict (now (sizes .entry)) (now (findings .entry)) (now (out .exit)) r ⌝ }
 {
     match verdict {
         Verdict::Accepted(count) => lines::write_accepted(sizes, findings, count, out),
