@@ -24,7 +24,8 @@ use Rattle.graph.specs.Table.{grid, grid-zeros}
 use Rattle.graph.specs.Loops.{looped-same, not-both}
 use Rattle.graph.specs.declared.Lowest.{Lowest}
 use Rattle.graph.proofs.Rows.{at-same, grown-as, turns-start, turns-on}
-use Rattle.loops.specs.Leads.{treeSlots, slotLeads, leads, loopOf, slotsOf, Located}
+use Rattle.loops.specs.Leads.{treeSlots, slotLeads, leads, loopOf}
+use Rattle.loops.specs.Located.{slotsOf, Located}
 use Rattle.loops.specs.Marks.{leadKind, partLeads, TreeMarked, SlotMarked, Filled}
 use Rattle.loops.proofs.Marking.{led-none, led-as}
 

@@ -15,7 +15,8 @@ use Rattle.view.specs.Part.{partAt}
 use Rattle.graph.specs.Ways.{Path, step, onto, has}
 use Rattle.graph.specs.Loops.{not-both}
 use Rattle.graph.specs.declared.Lowest.{Lowest}
-use Rattle.loops.specs.Leads.{slotLeads, leads, loopOf, slotsOf, Located}
+use Rattle.loops.specs.Leads.{slotLeads, leads, loopOf}
+use Rattle.loops.specs.Located.{slotsOf, Located}
 use Rattle.loops.specs.Marks.{leadKind, partLeads, noneLeads}
 use Rattle.loops.specs.Refusals.{is-not-looped}
 use Rattle.loops.proofs.Filling.{lead-kind, other-kind, slot-is}

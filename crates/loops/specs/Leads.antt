@@ -1,16 +1,12 @@
 -- Refusals 8 and 9: to which slots a slot leads, and the lowest slot on a loop.
-use Prim.Native.Nat.{ℕ, zero, suc, _≤_, _<_}
-use mathlib.Core.Path.{_≡_}
+use Prim.Native.Nat.{ℕ, zero, suc}
 use mathlib.Core.List.{List, [], _∷_, _++_}
 use mathlib.Core.Bool.{Bool, true, false, cond}
-use lib.Dec.{ltb}
-use lib.ListN.{length, getD}
-use Rattle.number.specs.Grammar.{Outcome, done, refused, read}
+use lib.ListN.{getD}
 use Rattle.tree.specs.Tree.{Tree, Leaf, Wrap, Pair, leaf, wrap, fixedArray, pair, generic, primitive, subByte, semantic, named, bitsInline, qualified, optional, array, setOf, vec2, vec3, vec4, quat, mat3, mat4, mapOf, resultOf}
 use Rattle.tree.specs.declared.Sort.{Sort}
 use Rattle.tree.specs.declared.Sort.the-variants.{Resolved, Expression}
-use Rattle.slot.specs.Slot.{Slot, empty, message, enum, flags, union, newtype, config, alias, trait, impl, slotAt}
-use Rattle.view.specs.Inside.{nameCount}
+use Rattle.slot.specs.Slot.{Slot, empty, message, enum, flags, union, newtype, config, alias, trait, impl}
 use Rattle.graph.specs.Ways.{Leads, lowestLooped, has}
 use Rattle.graph.specs.declared.Lowest.{Lowest}
 
@@ -87,18 +83,3 @@ leads sort finds slots i j = has j (slotLeads sort finds (slots i))
 -- the lowest of the first `count` slots that leads back to itself
 unfoldable pub loopOf : Sort → (finds : List ℕ) → (slots : ℕ → Slot) → (count : ℕ) → Lowest
 loopOf sort finds slots count = lowestLooped (leads sort finds slots) count
-
-abbrev pub slotOr : Outcome Slot → Slot
-slotOr (done x n) = x
-slotOr (refused r p) = empty
-
--- the slots of an image, from where they start; past the last there is none
-unfoldable pub slotsOf : (names count : ℕ) → (s starts : List ℕ) → ℕ → Slot
-slotsOf names count s starts i = cond (ltb i count) (slotOr (read (slotAt names) s (getD starts i 0))) empty
-
--- a slot was read at each start, of as many as there are slots, in an image of so many names
-pub record Located (names count : ℕ) (s starts : List ℕ) : Type 0 where
-  pub few : count ≤ 512
-  pub room : length starts ≡ count
-  pub named : nameCount s ≡ names
-  pub reads : (i : ℕ) → i < count → (x : Slot) × (end : ℕ) × (read (slotAt names) s (getD starts i 0) ≡ done x end)

@@ -11,7 +11,8 @@ use Rattle.slot.specs.Slot.{Slot, empty}
 use Rattle.graph.specs.Ways.{Path, Ends, has}
 use Rattle.graph.specs.Loops.{not-both, at-lowest, at-none, is-lowest, all-end}
 use Rattle.graph.specs.declared.Lowest.{Lowest}
-use Rattle.loops.specs.Leads.{slotLeads, leads, loopOf, slotsOf}
+use Rattle.loops.specs.Leads.{slotLeads, leads, loopOf}
+use Rattle.loops.specs.Located.{slotsOf}
 
 -- a slot leads back to itself
 abbrev pub OnLoop : Sort → (finds : List ℕ) → (slots : ℕ → Slot) → ℕ → Type 0

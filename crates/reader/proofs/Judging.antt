@@ -26,7 +26,8 @@ use Rattle.image.specs.Finds.{findsAt}
 use Rattle.image.proofs.Finding.{finds-read}
 use Rattle.view.specs.Take.{takenOf}
 use Rattle.view.specs.Inside.{nameCount}
-use Rattle.loops.specs.Leads.{loopOf, slotsOf, Located}
+use Rattle.loops.specs.Leads.{loopOf}
+use Rattle.loops.specs.Located.{slotsOf, Located}
 use Rattle.loops.specs.Refusals.{slots-past}
 use Rattle.reader.specs.Reading.{isEmpty, lostName, judged, answered, readingOf, schemaOr, schemaOf, startsOr, startsTable}
 use Rattle.reader.specs.Refusals.{Judged}

@@ -18,7 +18,7 @@ use Rattle.view.proofs.Fetching.{past, part-there}
 use Rattle.graph.specs.Ways.{lowest}
 use Rattle.graph.specs.declared.Lowest.{Lowest}
 use Rattle.graph.proofs.Rows.{low-at, low-next, low-none}
-use Rattle.loops.specs.Leads.{slotsOf, Located}
+use Rattle.loops.specs.Located.{slotsOf, Located}
 use Rattle.loops.specs.Refusals.{slots-past}
 use Rattle.reader.specs.Reading.{isEmpty, lost, lostName}
 use Rattle.reader.specs.Lost.{emptyPart, lostAt}

@@ -26,7 +26,8 @@ use Rattle.findings.specs.Findings.{findingsOf}
 use Rattle.findings.specs.declared.Finding.{Finding}
 use Rattle.findings.proofs.Adding.{adds-noted}
 use Rattle.recursion.specs.Recursion as endless
-use Rattle.typeck.specs.Check.{judged, verdictIn, verdictOf, onAccepted, sizeTable, findingTable, Answered, Found}
+use Rattle.typeck.specs.Check.{judged, verdictIn, verdictOf, onAccepted, sizeTable, findingTable, Answered}
+use Rattle.typeck.specs.Searching.{Found}
 use Rattle.typeck.specs.declared.Verdict.{Verdict}
 use Rattle.typeck.proofs.Enough.{limits-enough}
 

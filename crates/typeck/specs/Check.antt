@@ -2,22 +2,18 @@
 use Prim.Native.Nat.{ℕ, _*_}
 use mathlib.Core.Path.{_≡_}
 use mathlib.Core.List.{List, []}
-use mathlib.Core.Bool.{Bool, true, false, cond}
+use mathlib.Core.Bool.{cond}
 use lib.ListN.{length}
 use lib.Dec.{ltb}
 use Rattle.table.specs.Fitted.{fitted}
 use Rattle.image.specs.Schema.{Schema}
-use Rattle.image.specs.declared.Frame.{Frame}
 use Rattle.reader.specs.Reading.{schemaOf}
-use Rattle.reader.specs.Promise.{Promise}
 use Rattle.sizes.specs.Names.{NamesObey}
 use Rattle.sizes.specs.Demand.{Demand3}
 use Rattle.turns.specs.Sizing.{sizingOf, sizesOf, WhenRead}
 use Rattle.turns.specs.declared.Sizing.{Sizing}
 use Rattle.findings.specs.Finding.{noted}
 use Rattle.findings.specs.Findings.{findingsOf}
-use Rattle.findings.specs.Conformance.{hasImpl}
-use Rattle.order.specs.Order.{isOrdered}
 use Rattle.typeck.specs.Enough.{LimitsEnough}
 use Rattle.typeck.specs.declared.Verdict.{Verdict}
 
@@ -64,16 +60,3 @@ pub record Answered (s sizes sizesAfter findings findingsAfter : List ℕ) (r : 
   pub demand : (n : ℕ) → r ≡ Verdict.Accepted n → Demand3 (schemaOf s) sizesAfter
   pub names : WhenRead s NamesObey
   pub limits : WhenRead s LimitsEnough
-
--- the same of an image whose sizes stand in the table
-pub record Found (s sizes sizesAfter findings findingsAfter : List ℕ) (r : Verdict) : Type 0 where
-  pub answer : r ≡ judged (length findings) (schemaOf s)
-  pub sizeTable : sizesAfter ≡ onAccepted r (length sizes) sizes
-  pub findingTable : findingsAfter ≡ onAccepted r (length findings) (noted (length findings) (findingsOf (schemaOf s)))
-
--- an accepted image, what is known of its order and its impls, and a findings table that is all zero
-pub record Searchable (s starts : List ℕ) (f : Frame) (inOrder impls : Bool) (findings : List ℕ) : Type 0 where
-  pub promise : Promise s starts f
-  pub blank : findings ≡ fitted (length findings) []
-  pub order : inOrder ≡ true → isOrdered (schemaOf s) ≡ true
-  pub none : impls ≡ false → hasImpl (schemaOf s .slots) ≡ false

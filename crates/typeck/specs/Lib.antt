@@ -1,3 +1,4 @@
 pub mod Enough
 pub mod Check
+pub mod Searching
 pub mod Bench

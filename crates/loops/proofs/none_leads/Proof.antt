@@ -4,7 +4,7 @@ use native.Mathlib.Omega.{arith}
 use Prim.Native.Nat.{ℕ, _-_, _≤_}
 use mathlib.Core.Path.{_≡_}
 use mathlib.Core.Bool.{true}
-use Rattle.loops.specs.Leads.{slotsOf, Located}
+use Rattle.loops.specs.Located.{slotsOf, Located}
 use Rattle.loops.specs.Marks.{noneLeads}
 use Rattle.loops.proofs.Leading.{none-first, none-all, passed, stopped}
 use Rattle.loops.proofs.none_leads.Statement.{statement}

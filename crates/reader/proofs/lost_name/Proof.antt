@@ -3,7 +3,7 @@ use native.Mathlib.Omega.{arith}
 use Prim.Native.Nat.{_-_}
 use mathlib.Core.Path.{_∙_}
 use Rattle.number.proofs.Reading.{told}
-use Rattle.loops.specs.Leads.{slotsOf}
+use Rattle.loops.specs.Located.{slotsOf}
 use Rattle.reader.proofs.Losing.{lost-is, Turn, first-turn, last-turn, stop-turn, found-turn, next-turn}
 use Rattle.reader.proofs.lost_name.Statement.{statement}
 use Rattle.reader.proofs.lost_name.Tie as tie
