@@ -1,6 +1,6 @@
 -- What stands inside a slot: by the code's steps, and of a slot of each kind. Assumes nothing.
 use Prim.Native.Nat.{ℕ, zero, suc}
-use mathlib.Core.Path.{_≡_, refl, sym, ap, _∙_}
+use mathlib.Core.Path.{_≡_, refl, sym, _∙_}
 use mathlib.Core.List.{List}
 use Rattle.number.specs.Grammar.{counted, done, read}
 use Rattle.slot.specs.Field.{typeAt, expressionAt, fieldsAt}

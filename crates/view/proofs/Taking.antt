@@ -1,6 +1,6 @@
 -- Numbers taken, and what follows them. Assumes nothing.
 use Prim.Native.Nat.{ℕ, _≤_, _^_}
-use mathlib.Core.Path.{_≡_, refl, sym, ap, ap₂, _∙_}
+use mathlib.Core.Path.{_≡_, sym, ap, ap₂, _∙_}
 use mathlib.Core.List.{List}
 use native.Mathlib.Omega.{arith}
 use Rattle.number.specs.Grammar.{Role, value, Grammar, _>>=_, number, done, below, read}

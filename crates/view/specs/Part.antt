@@ -11,6 +11,6 @@ abbrev pub partOf : Outcome ℕ → Part
 partOf (done kind body) = Part.At kind body
 partOf (refused r p) = Part.Missing
 
--- by the table of where the slots start; missing past the table, or where no kind is read
+-- by where the slots start, one place a slot; missing past the last, or where no kind is read
 unfoldable pub partAt : (s starts : List ℕ) → (slot : ℕ) → Part
 partAt s starts k = cond (ltb k (length starts)) (partOf (below 10 s (getD starts k 0))) Part.Missing

@@ -1,6 +1,6 @@
 -- The loop's invariant: what the names passed find stands in the table. Assumes nothing.
 use borrow.Author.Needs.{needs}
-use Prim.Native.Nat.{_-_, _≤_}
+use Prim.Native.Nat.{_-_}
 use native.Mathlib.Omega.{arith}
 use Rattle.number.proofs.InRange.{below-is}
 use Rattle.number.proofs.Reading.{told}
