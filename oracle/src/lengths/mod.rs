@@ -186,11 +186,7 @@ fn run_one(image: &[u8], subjects: &[Subject], part: &mut Part) -> ControlFlow<B
     for (subject, (_, tally)) in subjects.iter().zip(&mut part.tallies) {
         let slots = imported.starts.len();
         if let Some(told) = told(image, &facts, subject, slots, tally) {
-            return ControlFlow::Break(smallest(image, subject).unwrap_or(Broken {
-                subject: subject.name,
-                image: image.to_vec(),
-                told,
-            }));
+            return ControlFlow::Break(smallest(image, told, subject));
         }
     }
     ControlFlow::Continue(())
@@ -406,20 +402,27 @@ fn told(
     }
 }
 
-fn smallest(image: &[u8], subject: &Subject) -> Option<Broken> {
-    let broken = |image: &[u8]| {
-        let imported = accepted(image)?;
+/// The smallest image found on which a clause is broken, the first one at least.
+fn smallest(image: &[u8], told_first: String, subject: &Subject) -> Broken {
+    let mut smallest = Broken {
+        subject: subject.name,
+        image: image.to_vec(),
+        told: told_first,
+    };
+    shrink(image, &mut |tried| {
+        let Some(imported) = accepted(tried) else {
+            return false;
+        };
         let facts = Facts::of(&imported.schema);
         let slots = imported.starts.len();
-        told(image, &facts, subject, slots, &mut Tally::default())
-    };
-    let image = shrink(image, &|tried| broken(tried).is_some());
-    let told = broken(&image)?;
-    Some(Broken {
-        subject: subject.name,
-        image,
-        told,
-    })
+        let Some(told) = told(tried, &facts, subject, slots, &mut Tally::default()) else {
+            return false;
+        };
+        smallest.image = tried.to_vec();
+        smallest.told = told;
+        true
+    });
+    smallest
 }
 
 impl fmt::Display for Summary {
