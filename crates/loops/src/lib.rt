@@ -34,11 +34,10 @@ fn mark_leaf(sort: Sort, kind: u64, number: u64, rows: &mut [u64], row: usize)
     ensures { λ _. ⌜ ((finds : List ℕ) (l : Leaf) → leafKind l ≡ kind → leafNumber l ≡ number → Led (now (rows .entry)) row (treeSlots sort finds (leaf l)) (now (rows .exit))) ⌝ }
 {
     match sort {
-        Sort::Resolved => {
-            if kind == 3 {
-                graph::mark(rows, row, number);
-            }
-        }
+        Sort::Resolved => match kind {
+            3 => graph::mark(rows, row, number),
+            _ => {}
+        },
         Sort::Expression => {}
     }
 }

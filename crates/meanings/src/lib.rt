@@ -201,13 +201,15 @@ fn note(
     ensures small { λ r. ⌜ r ≤ 1 ⌝ }
     ensures right { λ r. ⌜ RightNote names (now (image .entry)) kind v params start arguments (now (places .entry)) (now (places .exit)) r ⌝ }
 {
-    if kind == 3 {
-        let found = argument(image, params, start, arguments, names, v);
-        let code = code_of(found);
-        put(places, v, code);
-        return 1;
+    match kind {
+        3 => {
+            let found = argument(image, params, start, arguments, names, v);
+            let code = code_of(found);
+            put(places, v, code);
+            1
+        }
+        _ => 0,
     }
-    0
 }
 
 // Looks up the plain names of an expression, in the arguments of generics too, each occurrence once.

@@ -64,10 +64,10 @@ fn leaf_leads_on(
     requires { ⌜ Promise (now image) (now starts) frame × (slot < frame .slots) ⌝ }
     ensures { λ r. ⌜ ((l : Leaf) → leafKind l ≡ kind → leafNumber l ≡ number → r ≡ bareLeaf (leadsOn up (schemaOf (now (image .entry))) slot) l) ⌝ }
 {
-    if kind == 3 {
-        return leads_on(image, starts, frame, up, slot, number);
+    match kind {
+        3 => leads_on(image, starts, frame, up, slot, number),
+        _ => true,
     }
-    true
 }
 
 // Whether a type's kind is that of a bare name. Its caller only leans on the answer `false`.

@@ -43,12 +43,15 @@ fn list_leaf(kind: u64, number: u64, top: u16, parts: &mut [u16], used: usize) -
     requires { ⌜ top ≤ 1 ⌝ }
     ensures { λ r. ⌜ filled (now (parts .exit)) r ≡ pushAll (leafNames kind number top) (filled (now (parts .entry)) used) ⌝ }
 {
-    if kind == 3 {
-        if number < 512 {
-            return add(number as u16 * 2 + top, parts, used);
+    match kind {
+        3 => {
+            if number < 512 {
+                return add(number as u16 * 2 + top, parts, used);
+            }
+            used
         }
+        _ => used,
     }
-    used
 }
 
 // A type. `top` is 1 where it stands bare; what another type holds does not.

@@ -18,6 +18,6 @@ mark-leaf-spec =
     (λ c κs. search needs)
     (λ c. search needs)
     (λ c. search needs)
-    (λ c finds l k v. rw (c .before .before .before .before .before .enum-told .given .1) (led-one _ (c .before .before .mark .ensures) (leaf-named finds l _ (k ∙ c .before .before .before .before .if1 .taken) v)))
-    (λ c finds l k v. rw (c .before .enum-told .given .1) (led-none _ (c .before .before .before .before .pre .0) (leaf-none finds l (λ e. c .if1 .left (sym k ∙ e)))))
+    (λ c finds l k v. rw (c .before .before .before .before .before .enum-told .given .1) (led-one _ (c .before .before .mark .ensures) (leaf-named finds l _ (k ∙ c .before .before .before .before .match2 .keys1) v)))
+    (λ c finds l k v. rw (c .before .enum-told .given .1) (led-none _ (c .before .before .before .before .pre .0) (leaf-none finds l (λ e. c .match2 .rest .1 (sym k ∙ e)))))
     returns-3)

@@ -8,4 +8,4 @@ use Rattle.meanings.proofs.note.Tie as tie
 pub note-spec : {M : Type 1} → statement M
 note-spec =
     tie.close
-    (tie.spec (λ c κs. search needs) (λ c κs. search needs) (λ c κs. search needs) (λ c. search needs) (λ c. (omega arith, note-name _ _ _ _ _ _ _ _ _ (c .before .before .before .before .before .before .if1 .taken) _ (c .before .before .before .before .before .argument .ensures) _ (c .before .before .before .before .code-of .ensures) (c .before .before .put .ensures))) (λ c. (omega arith, note-other _ _ _ _ _ _ _ _ _ (c .if1 .left) refl)))
+    (tie.spec (λ c κs. search needs) (λ c κs. search needs) (λ c κs. search needs) (λ c. search needs) (λ c. (omega arith, note-name _ _ _ _ _ _ _ _ _ (c .before .before .before .before .before .before .match .keys1) _ (c .before .before .before .before .before .argument .ensures) _ (c .before .before .before .before .code-of .ensures) (c .before .before .put .ensures))) (λ c. (omega arith, note-other _ _ _ _ _ _ _ _ _ (c .match .rest .1) refl)))

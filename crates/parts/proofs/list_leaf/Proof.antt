@@ -7,4 +7,4 @@ use Rattle.parts.proofs.list_leaf.Tie as tie
 pub list-leaf-spec : {M : Type 1} → statement M
 list-leaf-spec =
     tie.close
-    (tie.spec (λ c. search needs) (λ c. search needs) (λ c. search needs) (λ c κs. search needs) (λ c. search needs) (λ c. c .before .before .add .ensures ∙ leaf-in _ _ _ _ (c .before .before .before .before .before .if1 .taken) (c .before .before .before .before .if2 .taken)) (λ c. leaf-past _ _ _ _ (c .before .if1 .taken) (c .if2 .left)) (λ c. leaf-not _ _ _ _ (c .if1 .left)))
+    (tie.spec (λ c. search needs) (λ c. search needs) (λ c. search needs) (λ c κs. search needs) (λ c. search needs) (λ c. c .before .before .add .ensures ∙ leaf-in _ _ _ _ (c .before .before .before .before .before .match .keys1) (c .before .before .before .before .if1 .taken)) (λ c. leaf-past _ _ _ _ (c .before .match .keys1) (c .if1 .left)) (λ c. leaf-not _ _ _ _ (c .match .rest .1)))
