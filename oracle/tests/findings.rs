@@ -1,6 +1,7 @@
 //! Findings of traits: class, slot, span, a and b.
 
 use oracle::answer::{answer, Answer, PROGRAM_PLACES};
+use oracle::bench::cases::wide_report;
 use oracle::model::{
     declared, field, generic, message, wrap, Impl, Schema, Slot, Tree, OPTIONAL, U32, U8,
 };
@@ -78,4 +79,13 @@ fn unfound_names_are_equal() {
     );
     schema.slots[0] = message(0, vec![field(0, unfound)]);
     assert!(findings(&schema).is_empty());
+}
+
+/// The report that is timed has every field of its trait, or none.
+#[test]
+fn wide_report_has_its_fields() {
+    assert!(findings(&wide_report(true)).is_empty());
+    let lacking = |index| [4, 2, 4_000, 60, index, 0];
+    let expected: Vec<u32> = (0..20).flat_map(lacking).collect();
+    assert_eq!(findings(&wide_report(false)), expected);
 }

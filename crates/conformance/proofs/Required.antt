@@ -26,10 +26,10 @@ use Rattle.findings.specs.Meaning.{meaningOf}
 use Rattle.findings.specs.Conformance.{hasField, lacking}
 use Rattle.findings.specs.declared.Finding.{Finding}
 use Rattle.findings.proofs.Adding.{adds-none, adds-then, adds-same}
-use Rattle.meanings.specs.Places.{AtNames, Known, Sound, LookAsked, RightLook}
+use Rattle.meanings.specs.Places.{Sound, LookAsked}
 use Rattle.meanings.specs.Scopes.{FindsHold}
-use Rattle.meanings.proofs.Noting.{looked-noted}
-use Rattle.search.specs.Search.{SearchAsked, HasField}
+use Rattle.search.specs.Search.{FieldSought, FoundIf, LooksUp, PlacesHold}
+use Rattle.search.proofs.Sought.{still-sound}
 use Rattle.conformance.specs.Parts.{ImplIs}
 use Rattle.conformance.specs.Adding.{ownFinding, Targeted}
 use Rattle.conformance.specs.declared.ImplDef.{ImplDef}
@@ -138,80 +138,53 @@ module _ (s starts : List ℕ) (f : Frame) (d : ImplDef) (e : TraitDef) (slot pl
         let b = field-parts s (f .names) p (a .first) (a .middle) (omega (arith, x .paired .promise .fewNames)) (a .here) v at t in
         record { field = a .first; others = a .others; end = a .middle; nameIs = b .0; typeRead = b .1; rest = a .rest; leftIs = a .whole }
 
-    pub look-asked : (x : Targeted s starts f d e place held) → Going x before now places n p k → LookAsked (f .names) 32 s at (e .«type_params») (d .«type_args») (d .«type_arg_count»)
-    look-asked x g = let a = next-field x g in looks x at (a .field .type) (a .end) (a .typeRead)
-
-  module _ (before now places : List ℕ) (n p k : ℕ) (h : k < e .«field_count») (long : length places ≡ 4096) (v at : ℕ) (t : Takes s p v at)
-      (after : List ℕ) (looked next : ℕ) (l : RightLook (f .names) 32 s at (e .«type_params») (d .«type_args») (d .«type_arg_count») places after looked next) where
-    -- the same, once its names were looked up
-    record First (x : Targeted s starts f d e place held) (g : Going x before now places n p k) : Type 0 where
-      own : Next before now places n p k h v at t x g
-      rest : read (many (e .«field_count» - (k + 1)) (traitFieldAt (f .names))) s next ≡ done (own .others) (x .paired .traitIs .fieldsEnd)
-      sound : Sound (f .names) s (x .paired .trait .parameters) (x .paired .impl .arguments) after
-      known : AtNames (Known after) (own .field .type)
-
-    first : (x : Targeted s starts f d e place held) (g : Going x before now places n p k) → First x g
-    first x g =
-        let P = x .paired .promise in
-        let a = next-field before now places n p k h v at t x g in
-        let asked = looks x at (a .field .type) (a .end) (a .typeRead) in
-        let q = l asked in
-        let noted = looked-noted asked (P .small) places after (omega (arith, P .fewNames)) (q .1) in
-        record {
-          own = a;
-          rest = ap (read (many (e .«field_count» - (k + 1)) (traitFieldAt (f .names))) s) (q .2) ∙ a .rest;
-          sound = noted .sound (g .sound);
-          known = noted .known;
-        }
-
-    module _ (finds : List ℕ) (hold : FindsHold s finds) (c m : ℕ) (u : Takes s place c m) where
+    module _ (long : length places ≡ 4096) (finds : List ℕ) (hold : FindsHold s finds) (c m : ℕ) (u : Takes s place c m) where
       fields-read : (x : Targeted s starts f d e place held) → read (many c (fieldAt (f .names))) s m ≡ done (x .message .fields) (x .end)
       unfolding counted
       fields-read x = take-on s place count 65537 (λ j. many j (fieldAt (f .names))) (x .message .fields) (x .end) c m u (omega arith) (x .reads)
 
-      pub search-asked : (x : Targeted s starts f d e place held) → Going x before now places n p k → SearchAsked s starts f finds after m c at
-      search-asked x g =
-          let a = first x g in
+      pub sought : (x : Targeted s starts f d e place held) → Going x before now places n p k
+          → FieldSought s starts f finds places (e .«type_params») (d .«type_args») (d .«type_arg_count») m c at
+      sought x g =
+          let a = next-field x g in
           record {
             ready = record { promise = x .paired .promise; holds = hold };
-            list = x .message .fields;
-            listEnd = x .end;
-            listRead = fields-read x;
-            expressed = record {
-              parameters = x .paired .trait .parameters;
-              arguments = x .paired .impl .arguments;
-              sound = a .sound;
-              tree = a .own .field .type;
-              end = a .own .end;
-              reads = a .own .typeRead;
-              known = a .known;
-            };
+            room = omega (arith, x .paired .promise .fewNames);
+            looks = looks x at (a .field .type) (a .end) (a .typeRead);
+            sound = g .sound;
+            own = x .message .fields;
+            ownEnd = x .end;
+            ownRead = fields-read x;
           }
 
       -- whether it is there
-      pub going-on : (found : Bool) → HasField (f .names) s after m c v at found
+      pub going-on : (found : Bool) → FoundIf (f .names) s (e .«type_params») (d .«type_args») (d .«type_arg_count») m c v at found
+          → (look-ups next : ℕ) → LooksUp (f .names) s at look-ups next
+          → (after : List ℕ) → PlacesHold (f .names) s (e .«type_params») (d .«type_args») (d .«type_arg_count») at places after
           → (y : Finding) → y ≡ ownFinding 4 slot d k → (table : List ℕ) (r : ℕ) → Adds 1 now table n r (cond found [] (y ∷ []))
           → (x : Targeted s starts f d e place held) → Going x before now places n p k → Going x before table after r next (k + 1)
-      going-on found w y own table r add x g =
-          let a = first x g in
+      unfolding sought
+      going-on found w look-ups next l after hold-after y own table r add x g =
+          let a = next-field x g in
           let S = schemaOf s in
           let i = x .paired .impl in
           let ps = x .paired .trait .parameters in
-          let there : found ≡ hasField (x .message .fields) (a .own .field .fieldName) (meaningOf S ps (i .arguments) (a .own .field .type)) =
-          w (x .message .fields) (x .end) ps (i .arguments) (a .own .field .type) (a .own .end) (fields-read x) (a .sound) (a .own .typeRead) (a .known)
-          ∙ ap (λ (j : ℕ). hasField (x .message .fields) j (meaningOf S ps (i .arguments) (a .own .field .type))) (a .own .nameIs) in
+          let asked = sought x g in
+          let there : found ≡ hasField (x .message .fields) (a .field .fieldName) (meaningOf S ps (i .arguments) (a .field .type)) =
+          w (x .message .fields) (x .end) (fields-read x) ps (i .arguments) (asked .looks .bound) (a .field .type) (a .end) (a .typeRead)
+          ∙ ap (λ (j : ℕ). hasField (x .message .fields) j (meaningOf S ps (i .arguments) (a .field .type))) (a .nameIs) in
           let here : List Finding = cond found [] (y ∷ []) in
           record {
             low = omega arith;
-            sound = a .sound;
-            left = a .own .others;
-            leftRead = a .rest;
+            sound = still-sound asked after hold-after;
+            left = a .others;
+            leftRead = ap (read (many (e .«field_count» - (k + 1)) (traitFieldAt (f .names))) s) (l (a .field .type) (a .end) (a .typeRead) .1) ∙ a .rest;
             added = g .added ++ here;
             adds = adds-then (k + 1) (g .adds) add (omega arith);
             whole = g .whole
-                ∙ ap (λ (q : List TraitField). g .added ++ lacking S slot i ps (x .message) k q) (a .own .leftIs)
+                ∙ ap (λ (q : List TraitField). g .added ++ lacking S slot i ps (x .message) k q) (a .leftIs)
                 ∙ ap (λ (q : List Finding). g .added ++ q)
-                (lacking-first S slot i ps (x .message) k (a .own .field) (a .own .others) found there
-                ∙ ap₂ (λ (q : Finding) (j : ℕ). cond found [] (q ∷ []) ++ lacking S slot i ps (x .message) j (a .own .others)) (sym (own ∙ own-is (x .paired .implIs) 4 slot k)) (sym (add-one k)))
-                ∙ sym (append-assoc (g .added) here (lacking S slot i ps (x .message) (k + 1) (a .own .others)));
+                (lacking-first S slot i ps (x .message) k (a .field) (a .others) found there
+                ∙ ap₂ (λ (q : Finding) (j : ℕ). cond found [] (q ∷ []) ++ lacking S slot i ps (x .message) j (a .others)) (sym (own ∙ own-is (x .paired .implIs) 4 slot k)) (sym (add-one k)))
+                ∙ sym (append-assoc (g .added) here (lacking S slot i ps (x .message) (k + 1) (a .others)));
           }

@@ -167,29 +167,27 @@ fn check_required_fields(
     let mut k: u32 = 0;
     while k < trait_def.field_count {
         let name = view::take(image, p);
-        let looked = meanings::look_up(
-            image,
-            name.next,
-            32,
-            frame.names,
-            trait_def.type_params,
-            impl_def.type_args,
-            impl_def.type_arg_count as u64,
-            &mut places,
-        );
-        let found = search::has_field(
+        let searched = search::search_field(
             image,
             starts,
             frame,
             &finds,
-            &places,
+            trait_def.type_params,
+            impl_def.type_args,
+            impl_def.type_arg_count as u64,
             fields.next,
             fields.value as u64,
             name.value as u64,
             name.next,
+            &mut places,
         );
-        n = put_unless(findings, n, found, own_finding(4, slot, impl_def, k));
-        p = looked.next;
+        n = put_unless(
+            findings,
+            n,
+            searched.found,
+            own_finding(4, slot, impl_def, k),
+        );
+        p = searched.next;
         k += 1;
     }
     n

@@ -20,7 +20,8 @@ use Rattle.tree.specs.declared.Head.{Head}
 use Rattle.tree.proofs.Shapes.{parts, head-refused, no-tree}
 use Rattle.tree.proofs.Nodes.{named-below}
 use Rattle.slot.specs.Field.{typeAt}
-use Rattle.meanings.specs.Places.{leafOccurs, occurs, AtLeaf, AtNames, IsArgument, argumentPlace, codeOf, foundOf, lookLeaf, lookedUp, Known, Sound, RightArgument, RightNote, LookAsked, RightLook}
+use Rattle.meanings.specs.Occurs.{occurs}
+use Rattle.meanings.specs.Places.{AtLeaf, AtNames, IsArgument, argumentPlace, codeOf, foundOf, lookLeaf, lookedUp, Known, Sound, RightArgument, RightLeafLook, LookAsked, RightLook}
 use Rattle.meanings.specs.declared.Found.{Found}
 use Rattle.meanings.proofs.Arguments.{place-right}
 use Rattle.meanings.proofs.Leaves.{leaf-3}
@@ -194,15 +195,18 @@ looked-noted {names} {levels} {s} {at} {list} {start} {arguments} a small before
 -- ## The code's steps
 
 module _ (names : ℕ) (s : List ℕ) (kind v parameters start arguments : ℕ) (before after : List ℕ) where
-  pub note-name : kind ≡ 3 → (found : Found) → RightArgument names s parameters start arguments v found → (code : ℕ) → code ≡ codeOf found
-      → after ≡ set before v code → RightNote names s kind v parameters start arguments before after 1
-  note-name e found h code c g ps ts b l k n =
-      rw (leaf-3 l v (k ∙ e) n) (refl, g ∙ ap (set before v) (c ∙ ap codeOf (h ps ts b)))
+  -- the count is the look-up's own
+  pub look-name : kind ≡ 3 → (found : Found) → RightArgument names s parameters start arguments v found → (n count : ℕ) → n ≡ 1 → count ≡ n
+      → after ≡ set before v (codeOf found) → RightLeafLook names s kind v parameters start arguments before after count
+  unfolding occurs
+  look-name e found h n count q same g ps ts b l k v-is =
+      rw (leaf-3 l v (k ∙ e) v-is) (same ∙ q, g ∙ ap (λ (x : Found). set before v (codeOf x)) (h ps ts b))
 
-  pub note-other : (kind ≡ 3 → ⊥) → after ≡ before → RightNote names s kind v parameters start arguments before after 0
-  note-other e a ps ts b l k n = none l (λ x. e (sym k ∙ x))
+  pub look-other : (kind ≡ 3 → ⊥) → after ≡ before → RightLeafLook names s kind v parameters start arguments before after 0
+  unfolding occurs
+  look-other e a ps ts b l k n = none l (λ x. e (sym k ∙ x))
     where
-      none : (l : Leaf) → (leafKind l ≡ 3 → ⊥) → (0 ≡ leafOccurs l) × (after ≡ lookLeaf (argumentPlace names s ps start arguments) l before)
+      none : (l : Leaf) → (leafKind l ≡ 3 → ⊥) → (0 ≡ occurs (leaf l)) × (after ≡ lookLeaf (argumentPlace names s ps start arguments) l before)
       none (primitive p) h = (refl, a)
       none (subByte g b) h = (refl, a)
       none (semantic m) h = (refl, a)
@@ -257,7 +261,7 @@ module _ (names levels : ℕ) (s : List ℕ) (at list start arguments : ℕ) whe
     Right after count next = RightLook names levels s at list start arguments before after count next
 
     pub look-leaf : (k g v n : ℕ) → Shape (Head.Leaf k g v n) → (after : List ℕ) (count : ℕ)
-        → RightNote names s k v list start arguments before after count → Right after count n
+        → RightLeafLook names s k v list start arguments before after count → Right after count n
     unfolding occurs lookedUp
     look-leaf k g v n x after count i a =
         let p = parts Expression names s at levels (some-level a) _ x (a .tree) (a .end) (a .reads) in

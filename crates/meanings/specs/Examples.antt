@@ -11,7 +11,8 @@ use Rattle.slot.specs.Slot.{Slot, message, alias}
 use Rattle.image.specs.Schema.{Schema, slotOf}
 use Rattle.findings.specs.Meaning.{resolved, argumentOf, leafValue, valueOf, leafMeant, substitute, applied, meaningOf}
 use Rattle.meanings.specs.Rank.{rank, height, rankOf}
-use Rattle.meanings.specs.Places.{occurs, lookedUp}
+use Rattle.meanings.specs.Occurs.{occurs}
+use Rattle.meanings.specs.Places.{lookedUp}
 use Rattle.meanings.specs.declared.Found.{Found}
 
 abbrev aliasSlot : List ℕ → Tree → Slot

@@ -1,4 +1,5 @@
 pub mod Rank
+pub mod Occurs
 pub mod Places
 pub mod Scopes
 pub mod Independent

@@ -14,23 +14,8 @@ use Rattle.tree.specs.TreeAt.{treeAt}
 use Rattle.tree.specs.declared.Sort.the-variants.{Expression}
 use Rattle.slot.specs.Field.{typeAt}
 use Rattle.findings.specs.Meaning.{argumentOf}
+use Rattle.meanings.specs.Occurs.{occurs}
 use Rattle.meanings.specs.declared.Found.{Found}
-
--- how often plain names occur
-abbrev pub leafOccurs : Leaf → ℕ
-leafOccurs (primitive p) = 0
-leafOccurs (subByte g b) = 0
-leafOccurs (semantic m) = 0
-leafOccurs (named n) = 1
-leafOccurs (bitsInline ns) = 0
-leafOccurs (qualified n) = 0
-
-unfoldable pub occurs : Tree → ℕ
-occurs (leaf l) = leafOccurs l
-occurs (wrap w e) = occurs e
-occurs (fixedArray e n) = occurs e
-occurs (pair p e f) = occurs e + occurs f
-occurs (generic n e) = occurs e
 
 -- a property of each plain name
 abbrev pub AtLeaf : (ℕ → Type 0) → Leaf → Type 0
@@ -116,10 +101,10 @@ abbrev pub RightArgument : (names : ℕ) → (s : List ℕ) → (parameters star
 RightArgument names s parameters start arguments n r =
     (ps : List ℕ) (ts : List Tree) → Bound names s parameters start arguments ps ts → r ≡ argumentPlace names s ps start arguments n
 
-abbrev pub RightNote : (names : ℕ) → (s : List ℕ) → (kind v parameters start arguments : ℕ) → (before after : List ℕ) → (count : ℕ) → Type 0
-RightNote names s kind v parameters start arguments before after count =
+abbrev pub RightLeafLook : (names : ℕ) → (s : List ℕ) → (kind v parameters start arguments : ℕ) → (before after : List ℕ) → (count : ℕ) → Type 0
+RightLeafLook names s kind v parameters start arguments before after count =
     (ps : List ℕ) (ts : List Tree) → Bound names s parameters start arguments ps ts → (l : Leaf) → leafKind l ≡ kind → leafNumber l ≡ v
-    → (count ≡ leafOccurs l) × (after ≡ lookLeaf (argumentPlace names s ps start arguments) l before)
+    → (count ≡ occurs (leaf l)) × (after ≡ lookLeaf (argumentPlace names s ps start arguments) l before)
 
 -- an expression stands at a position, and what its names may stand for elsewhere
 pub record LookAsked (names levels : ℕ) (s : List ℕ) (at list start arguments : ℕ) : Type 0 where

@@ -14,7 +14,7 @@ ghost use Rattle.tree.specs.TreeAt.{headAt};
 ghost use Rattle.tree.specs.declared.Sort.{Sort};
 ghost use Rattle.findings.specs.Meaning.{idFound, idOr};
 ghost use Rattle.findings.specs.declared.Value.{Value};
-ghost use Rattle.meanings.specs.Places.{codeOf, RightArgumentIn, RightArgument, RightNote, LookAsked, RightLook};
+ghost use Rattle.meanings.specs.Places.{codeOf, RightArgumentIn, RightArgument, RightLeafLook, LookAsked, RightLook};
 ghost use Rattle.meanings.specs.Scopes.{firstAt, isFirst, nameMeaning, leafMeaning, headValue, RightAlias, RightLeaf, RightName, Ready, Asked};
 
 // What names stand for. Types: parameters, by the table of places. One: an alias's parameters at a place, and its one
@@ -36,6 +36,12 @@ pub enum Meaning {
 pub enum Found {
     At(usize),
     Nothing,
+}
+
+// One look-up among parameters: where the argument stands, and the count 1.
+pub struct LookUp {
+    pub found: Found,
+    pub count: u64,
 }
 
 // Where an alias has its parameters, and where its target.
@@ -157,13 +163,20 @@ fn argument_in(
     Found::Nothing
 }
 
-// The argument of a name: the parameters stand at one place behind their count, the types from another on.
-fn argument(image: &[u8], params: usize, start: usize, arguments: u64, names: u64, n: u64) -> Found
-    ensures { λ r. ⌜ RightArgument names (now (image .entry)) params start arguments n r ⌝ }
+// Looks a name up: the parameters stand at one place behind their count, the types from another on.
+fn argument(image: &[u8], params: usize, start: usize, arguments: u64, names: u64, n: u64) -> LookUp
+    ensures one { λ r. ⌜ r .count ≡ 1 ⌝ }
+    ensures right { λ r. ⌜ RightArgument names (now (image .entry)) params start arguments n (r .found) ⌝ }
 {
     match number::read_below(image, params, 65537) {
-        Ranged::Value(count, first) => argument_in(image, first, count, start, arguments, names, n),
-        Ranged::Refused(_, q) => Found::Nothing,
+        Ranged::Value(count, first) => {
+            let found = argument_in(image, first, count, start, arguments, names, n);
+            LookUp { found, count: 1 }
+        }
+        Ranged::Refused(_, q) => LookUp {
+            found: Found::Nothing,
+            count: 1,
+        },
     }
 }
 
@@ -178,17 +191,28 @@ fn code_of(found: Found) -> u32
 }
 
 // A name past the table's end is left out.
-fn put(places: &mut [u32], n: u64, code: u32)
-    ensures { λ _. ⌜ now (places .exit) ≡ set (now (places .entry)) n code ⌝ }
+fn put(places: &mut [u32], n: u64, found: Found)
+    ensures { λ _. ⌜ now (places .exit) ≡ set (now (places .entry)) n (codeOf found) ⌝ }
 {
+    let code = code_of(found);
     let i = n as usize;
     if i < places.len() {
         places[i] = code;
     }
 }
 
+// Notes what a look-up found, and hands its count on.
+fn note(places: &mut [u32], n: u64, looked: LookUp) -> u64
+    ensures count { λ r. ⌜ r ≡ looked .count ⌝ }
+    ensures table { λ _. ⌜ now (places .exit) ≡ set (now (places .entry)) n (codeOf (looked .found)) ⌝ }
+{
+    let found = looked.found;
+    put(places, n, found);
+    looked.count
+}
+
 // Looks a leaf up, if it is a plain name: the count of look-ups, 1 or 0.
-fn note(
+fn look_up_leaf(
     image: &[u8],
     kind: u64,
     v: u64,
@@ -199,14 +223,12 @@ fn note(
     places: &mut [u32],
 ) -> u64
     ensures small { λ r. ⌜ r ≤ 1 ⌝ }
-    ensures right { λ r. ⌜ RightNote names (now (image .entry)) kind v params start arguments (now (places .entry)) (now (places .exit)) r ⌝ }
+    ensures right { λ r. ⌜ RightLeafLook names (now (image .entry)) kind v params start arguments (now (places .entry)) (now (places .exit)) r ⌝ }
 {
     match kind {
         3 => {
-            let found = argument(image, params, start, arguments, names, v);
-            let code = code_of(found);
-            put(places, v, code);
-            1
+            let looked = argument(image, params, start, arguments, names, v);
+            note(places, v, looked)
         }
         _ => 0,
     }
@@ -233,7 +255,7 @@ pub fn look_up(
     let inside = levels - 1;
     match tree::read_head(image, at, Sort::Expression, names) {
         Head::Leaf(kind, _, v, next) => {
-            let count = note(image, kind, v, names, params, start, arguments, places);
+            let count = look_up_leaf(image, kind, v, names, params, start, arguments, places);
             Looked { count, next }
         }
         Head::One(_, body) => {

@@ -1,4 +1,4 @@
--- Fields that have a trait field's name and type, and fields that do not.
+-- Fields that have a trait field's name and type, and fields that do not; and how often the search looks a name up.
 use Prim.Native.Nat.{ℕ}
 use mathlib.Core.Path.{_≡_, refl}
 use mathlib.Core.List.{List, [], _∷_, map}
@@ -11,6 +11,7 @@ use Rattle.image.specs.Schema.{Schema, slotOf}
 use Rattle.findings.specs.Meaning.{resolved, argumentOf, leafValue, valueOf, leafMeant, substitute, applied, meaningOf}
 use Rattle.findings.specs.Compatible.{sameNames, sameLeaf, sameTree}
 use Rattle.findings.specs.Conformance.{isField, hasField}
+use Rattle.meanings.specs.Occurs.{occurs}
 
 -- Names: 0 T, 1 Box, 2 Twice, 3 M. Box finds an alias of T with the target T, Twice one with the target `Box<Box<T>>`, M a
 -- message; T finds nothing.
@@ -62,3 +63,46 @@ lines-hold = refl
 pub by-name : hasField (field 4 (leaf (primitive 3)) ∷ []) 5 (meaningOf schema (0 ∷ []) (leaf (primitive 3) ∷ []) (leaf (named 0))) ≡ false
 unfolding argumentOf leafMeant substitute meaningOf sameNames sameLeaf sameTree isField hasField
 by-name = refl
+
+-- a search for the field 5: the trait's parameters and what they stand for, the fields of the message, the expression; whether it is found, and
+-- how many look-ups that takes
+pub record Search : Type 0 where
+  pub parameters : List ℕ
+  pub arguments : List Tree
+  pub fields : List Field
+  pub expression : Tree
+  pub found : Bool
+  pub lookUps : ℕ
+
+-- T stands for U8
+abbrev ofT : List Field → Tree → Bool → ℕ → Search
+ofT fs e b n = record { parameters = 0 ∷ []; arguments = leaf (primitive 3) ∷ []; fields = fs; expression = e; found = b; lookUps = n }
+
+abbrev searches : List Search
+searches =
+    -- a name twice; once more below a generic that finds no alias, but a message or nothing
+    ofT (field 5 (pair mapOf (leaf (primitive 3)) (leaf (primitive 3))) ∷ []) (pair mapOf (leaf (named 0)) (leaf (named 0))) true 2
+    ∷ ofT (field 5 (leaf (named 4294967295)) ∷ []) (generic 3 (pair mapOf (leaf (named 0)) (leaf (named 0)))) true 2
+    ∷ ofT (field 5 (leaf (named 4294967295)) ∷ []) (generic 0 (leaf (named 0))) true 1
+    -- `Twice<M>`: the names in the targets of Twice and Box are not in the expression, and a generic's own name is no plain one
+    ∷ ofT (field 5 (leaf (named 2)) ∷ []) (generic 2 (leaf (named 3))) true 1
+    -- no field of that name: none at all, one of another name, three; the type of the only one is another
+    ∷ ofT [] (wrap optional (leaf (named 0))) false 1
+    ∷ ofT (field 4 (leaf (primitive 3)) ∷ []) (leaf (named 0)) false 1
+    ∷ ofT (field 4 (leaf (primitive 3)) ∷ field 4 (leaf (primitive 3)) ∷ field 6 (leaf (primitive 3)) ∷ []) (leaf (named 0)) false 1
+    ∷ ofT (field 5 (leaf (primitive 2)) ∷ []) (fixedArray (leaf (named 0)) 4) false 1
+    -- a qualified name, and none
+    ∷ ofT (field 5 (leaf (named 2)) ∷ []) (leaf (qualified 3)) true 0
+    ∷ ofT (field 5 (leaf (primitive 3)) ∷ []) (leaf (primitive 3)) true 0
+    -- no parameters: looked up all the same
+    ∷ record { parameters = []; arguments = []; fields = field 5 (leaf (named 2)) ∷ []; expression = leaf (named 3); found = true; lookUps = 1 }
+    ∷ record { parameters = []; arguments = []; fields = []; expression = pair mapOf (leaf (named 0)) (leaf (named 3)); found = false; lookUps = 2 }
+    ∷ []
+
+pub searches-found : map (λ l. hasField (l .fields) 5 (meaningOf schema (l .parameters) (l .arguments) (l .expression))) searches ≡ map (λ l. l .found) searches
+unfolding slotOf resolved argumentOf leafValue valueOf leafMeant substitute applied meaningOf sameNames sameLeaf sameTree isField hasField
+searches-found = refl
+
+pub searches-counted : map (λ l. occurs (l .expression)) searches ≡ map (λ l. l .lookUps) searches
+unfolding occurs
+searches-counted = refl

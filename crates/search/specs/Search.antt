@@ -1,8 +1,9 @@
 -- What the search for a trait field asks for, and what it answers.
-use Prim.Native.Nat.{ℕ}
+use Prim.Native.Nat.{ℕ, _≤_}
 use mathlib.Core.Path.{_≡_}
 use mathlib.Core.List.{List}
 use mathlib.Core.Bool.{Bool}
+use lib.ListN.{length}
 use Rattle.number.specs.Grammar.{many, done, read}
 use Rattle.tree.specs.Tree.{Tree}
 use Rattle.slot.specs.Field.{typeAt, expressionAt, Field, fieldAt}
@@ -10,7 +11,8 @@ use Rattle.image.specs.declared.Frame.{Frame}
 use Rattle.reader.specs.Reading.{schemaOf}
 use Rattle.findings.specs.Meaning.{meaningOf}
 use Rattle.findings.specs.Conformance.{isField, hasField}
-use Rattle.meanings.specs.Places.{AtNames, Known, Sound}
+use Rattle.meanings.specs.Occurs.{occurs}
+use Rattle.meanings.specs.Places.{AtNames, argumentPlace, lookedUp, Known, Sound, Bound, LookAsked}
 use Rattle.meanings.specs.Scopes.{Ready}
 use Rattle.search.specs.declared.FieldHead.{FieldHead}
 
@@ -61,3 +63,34 @@ HasField names s places fields count name expression r =
     → read (many count (fieldAt names)) s fields ≡ done fs end → Sound names s ps ts places
     → read (expressionAt names) s expression ≡ done e n → AtNames (Known places) e
     → r ≡ hasField fs name (meaningOf (schemaOf s) ps ts e)
+
+-- a trait field that is searched: its expression, the trait's parameters and what they stand for, the fields of the message; and a table of
+-- places with room for every name, in which nothing wrong stands
+pub record FieldSought (s starts : List ℕ) (f : Frame) (finds places : List ℕ) (list start arguments fields count expression : ℕ) : Type 0 where
+  pub ready : Ready s starts f finds
+  pub room : f .names ≤ length places
+  pub looks : LookAsked (f .names) 32 s expression list start arguments
+  pub sound : Sound (f .names) s (looks .parameters) (looks .types) places
+  pub own : List Field
+  pub ownEnd : ℕ
+  pub ownRead : read (many count (fieldAt (f .names))) s fields ≡ done own ownEnd
+
+-- found exactly if the message has the field
+abbrev pub FoundIf : (names : ℕ) → (s : List ℕ) → (list start arguments fields count name expression : ℕ) → Bool → Type 0
+FoundIf names s list start arguments fields count name expression r =
+    (fs : List Field) (m : ℕ) → read (many count (fieldAt names)) s fields ≡ done fs m
+    → (ps : List ℕ) (ts : List Tree) → Bound names s list start arguments ps ts
+    → (e : Tree) (end : ℕ) → read (expressionAt names) s expression ≡ done e end
+    → r ≡ hasField fs name (meaningOf (schemaOf s) ps ts e)
+
+-- one look-up for each plain name of the expression, and the position after it: whatever the message's fields, and however many are tried
+abbrev pub LooksUp : (names : ℕ) → (s : List ℕ) → (expression look-ups next : ℕ) → Type 0
+LooksUp names s expression look-ups next =
+    (e : Tree) (end : ℕ) → read (expressionAt names) s expression ≡ done e end → (look-ups ≡ occurs e) × (next ≡ end)
+
+-- the table with those names looked up
+abbrev pub PlacesHold : (names : ℕ) → (s : List ℕ) → (list start arguments expression : ℕ) → (before after : List ℕ) → Type 0
+PlacesHold names s list start arguments expression before after =
+    (ps : List ℕ) (ts : List Tree) → Bound names s list start arguments ps ts
+    → (e : Tree) (end : ℕ) → read (expressionAt names) s expression ≡ done e end
+    → after ≡ lookedUp (argumentPlace names s ps start arguments) e before

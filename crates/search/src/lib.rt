@@ -1,10 +1,20 @@
 // The search for a trait field among the fields of a message.
 use image::Frame;
 use matching::Matched;
+use meanings::Looked;
 use number::Next;
 use number::Ranged;
 use tree::Sort;
-ghost use Rattle.search.specs.Search.{Heads, FieldAsked, IsField, SearchAsked, HasField};
+ghost use mathlib.Core.Path.{_≡_};
+ghost use Rattle.search.specs.Search.{Heads, FieldAsked, IsField, SearchAsked, HasField, FieldSought, FoundIf, LooksUp, PlacesHold};
+
+// Whether the message has the trait field, how many names were looked up among the trait's parameters, and the position after the
+// trait field's expression.
+pub struct Searched {
+    pub found: bool,
+    pub look_ups: u64,
+    pub next: usize,
+}
 
 // A field's name, and the position of its type.
 pub struct FieldHead {
@@ -59,8 +69,9 @@ fn is_field(
     }
 }
 
-// Whether one of `count` fields has the name and the type that the expression means.
-pub fn has_field(
+// Whether one of `count` fields has the name and the type that the expression means. Where the trait's parameters stand, and where the
+// types, is not handed down: nothing can be looked up while fields are tried.
+fn has_field(
     image: &[u8],
     starts: &[usize],
     frame: Frame,
@@ -97,4 +108,61 @@ pub fn has_field(
         }
     };
     found
+}
+
+// The look-ups are told as they were made, whether a field was found or not.
+fn answer(found: bool, looked: Looked) -> Searched
+    ensures found { λ r. ⌜ r .found ≡ found ⌝ }
+    ensures look_ups { λ r. ⌜ r .«look_ups» ≡ looked .count ⌝ }
+    ensures next { λ r. ⌜ r .next ≡ looked .next ⌝ }
+{
+    Searched {
+        found,
+        look_ups: looked.count,
+        next: looked.next,
+    }
+}
+
+// Searches a trait field among `count` fields of a message. The names of its expression are looked up once, before any field is tried.
+pub fn search_field(
+    image: &[u8],
+    starts: &[usize],
+    frame: Frame,
+    finds: &[u16],
+    type_params: usize,
+    type_args: usize,
+    type_arg_count: u64,
+    fields: usize,
+    count: u64,
+    name: u64,
+    expression: usize,
+    places: &mut [u32],
+) -> Searched
+    requires { ⌜ FieldSought (now image) (now starts) frame (now finds) (now places) «type_params» «type_args» «type_arg_count» fields count expression ⌝ }
+    ensures found { λ r. ⌜ FoundIf (frame .names) (now (image .entry)) «type_params» «type_args» «type_arg_count» fields count name expression (r .found) ⌝ }
+    ensures look_ups { λ r. ⌜ LooksUp (frame .names) (now (image .entry)) expression (r .«look_ups») (r .next) ⌝ }
+    ensures table { λ _. ⌜ PlacesHold (frame .names) (now (image .entry)) «type_params» «type_args» «type_arg_count» expression (now (places .entry)) (now (places .exit)) ⌝ }
+{
+    let looked = meanings::look_up(
+        image,
+        expression,
+        32,
+        frame.names,
+        type_params,
+        type_args,
+        type_arg_count,
+        places,
+    );
+    let found = has_field(
+        image,
+        starts,
+        frame,
+        finds,
+        places,
+        fields,
+        count,
+        name,
+        expression,
+    );
+    answer(found, looked)
 }

@@ -38,6 +38,8 @@ pub fn cases() -> Vec<Case> {
         },
         case("typical, 40 slots", typical()),
         case("random, 40 slots", schema_of(&mut random, style, 40)),
+        case("wide report", wide_report(true)),
+        case("wide report, none found", wide_report(false)),
         case("40 messages, inner first", nested(40, false)),
         case("40 messages, outer first", nested(40, true)),
         case("full, one message", one_message(&mut random)),
@@ -61,6 +63,48 @@ fn one_small_message() -> Schema {
 fn one_message_of(fields: u64) -> Schema {
     let fields = (0..fields).map(|name| field(name, kind_of_field(name)));
     declared(vec![0; 12], vec![message(0, fields.collect())])
+}
+
+/// A report of 200 fields, and a trait of 20 parameters and 20 fields, spread
+/// over those of the report: it has them all, or none of their names.
+pub fn wide_report(found: bool) -> Schema {
+    const PARAMETERS: u64 = 20;
+    const FIELDS: u64 = PARAMETERS;
+    const ELSEWHERE: u64 = 0;
+    let fields = (0..200).map(|place| match (place % 10, found) {
+        (9, true) => field(FIELDS + place, trait_type(place / 10, kind_of_field)),
+        (9, false) => field(ELSEWHERE, trait_type(place / 10, kind_of_field)),
+        _ => field(FIELDS + place, kind_of_field(place)),
+    });
+    let required = (0..20).map(|number| {
+        let name = FIELDS + 10 * number + 9;
+        (name, trait_type(number, Tree::Named))
+    });
+    let slots = vec![
+        message(0, fields.collect()),
+        Slot::Trait {
+            parameters: (0..PARAMETERS).collect(),
+            fields: required.collect(),
+        },
+        Slot::Impl(Impl {
+            span: (4_000, 60),
+            trait_number: 2,
+            trait_span: None,
+            arguments: (0..PARAMETERS).map(kind_of_field).collect(),
+            target: Tree::Named(0),
+        }),
+    ];
+    declared(vec![0; FIELDS as usize + 200], slots)
+}
+
+/// The type of a trait's field, by what its parameters are: each fourth has two.
+fn trait_type(number: u64, parameter: impl Fn(u64) -> Tree) -> Tree {
+    match number % 4 {
+        0 => parameter(number),
+        1 => wrap(OPTIONAL, parameter(number)),
+        2 => wrap(ARRAY, parameter(number)),
+        _ => pair(MAP, parameter(number), parameter(number - 1)),
+    }
 }
 
 /// Each message holds the next one, and is declared after or before it.

@@ -10,7 +10,7 @@ use borrow.Fn.PlainCycle.{Measures, is, falls, and}
 use Rattle.meanings.proofs.look_up.Reads as look-up
 use Rattle.meanings.proofs.look_up.Kinds as look-up-kinds
 use Rattle.meanings.proofs.+look_up.Lts-look_up as look-up-lts
-use Rattle.meanings.proofs.note.Reads as note-reads
+use Rattle.meanings.proofs.look_up_leaf.Reads as look-up-leaf-reads
 use Rattle.number.proofs.read_whole.Reads as read-whole-reads
 use Rattle.tree.proofs.read_head.Reads as read-head-reads
 use Rattle.meanings.proofs.+look_up.{statement}
@@ -29,8 +29,8 @@ abbrev look-up-known : ℕ → look-up-lts.Claims
 look-up-known t = (
   read-head-reads.Asked,
   read-head-reads.Learnt,
-  note-reads.Asked,
-  note-reads.Learnt,
+  look-up-leaf-reads.Asked,
+  look-up-leaf-reads.Learnt,
   look-up-below t,
   look-up.Post,
   read-whole-reads.Asked,
@@ -54,8 +54,8 @@ look-up-enum-known-kind : (t : ℕ) → look-up-lts.Need-enum-known-kind (look-u
 look-up-enum-known-kind t c = search needs
 
 -- src/lib.rt:239:17
-look-up-note-requires : (t : ℕ) → look-up-lts.Need-note-requires (look-up-known t) (look-up-at t) look-up.Post
-look-up-note-requires t c κs = search needs
+look-up-look-up-leaf-requires : (t : ℕ) → look-up-lts.Need-look-up-leaf-requires (look-up-known t) (look-up-at t) look-up.Post
+look-up-look-up-leaf-requires t c κs = search needs
 
 -- src/lib.rt:242:22
 look-up-enum-known-body : (t : ℕ) → look-up-lts.Need-enum-known-body (look-up-known t) (look-up-at t) look-up.Post
@@ -119,7 +119,7 @@ look-up-same-length t c = search needs
 
 -- src/lib.rt:219:1
 look-up-returns-2 : (t : ℕ) → look-up-lts.Need-returns-2 (look-up-known t) (look-up-at t) look-up.Post
-look-up-returns-2 t c = (omega (arith, c .before .before .note .ensures .0, pow-pos (c .before .before .before .before .before .before .before .before .before .before .before .args .levels)), look-leaf _ _ _ _ _ _ _ _ _ _ _ _ (sym (c .before .before .before .before .before .before .before .read-head .ensures) ∙ c .before .before .before .before .before .kind .given .1) _ _ (c .before .before .note .ensures .1))
+look-up-returns-2 t c = (omega (arith, c .before .before .look-up-leaf .ensures .0, pow-pos (c .before .before .before .before .before .before .before .before .before .before .before .args .levels)), look-leaf _ _ _ _ _ _ _ _ _ _ _ _ (sym (c .before .before .before .before .before .before .before .read-head .ensures) ∙ c .before .before .before .before .before .kind .given .1) _ _ (c .before .before .look-up-leaf .ensures .1))
 
 -- src/lib.rt:219:1
 look-up-same-length-2 : (t : ℕ) → look-up-lts.Need-same-length-2 (look-up-known t) (look-up-at t) look-up.Post
@@ -172,7 +172,7 @@ pub +look-up-spec : {M : Type 1} → statement M
     (look-up-sub-inside t)
     (look-up-read-head-requires t)
     (look-up-enum-known-kind t)
-    (look-up-note-requires t)
+    (look-up-look-up-leaf-requires t)
     (look-up-enum-known-body t)
     (look-up-look-up-requires t)
     (look-up-enum-known-body-2 t)

@@ -5,4 +5,6 @@ use Rattle.meanings.proofs.put.Statement.{statement}
 use Rattle.meanings.proofs.put.Tie as tie
 
 pub put-spec : {M : Type 1} → statement M
-put-spec = tie.close (tie.spec (λ c. search needs) (λ c. search needs) (λ c. search needs) (λ c. search needs) (λ c. sym (set-out _ _ _ (c .if1 .left))))
+put-spec =
+    tie.close
+    (tie.spec (λ c κs. search needs) (λ c. search needs) (λ c. search needs) (λ c. search needs) (λ c. simp (c .before .code-of .ensures)) (λ c. sym (set-out _ _ _ (c .if1 .left))))
