@@ -26,7 +26,8 @@ use Rattle.tree.proofs.Shapes.{parts}
 use Rattle.tree.proofs.Nodes.{head-parts}
 use Rattle.slot.specs.Field.{typeAt, Field, fieldAt, fieldsAt}
 use Rattle.slot.specs.Slot.{Slot, empty, message, enum, flags, union, newtype, config, alias, trait, impl, slotKind, Message, messageAt, newtypeAt, slotBodyAt}
-use Rattle.slot.specs.Short.{shortAt, shortLeaf}
+use Rattle.tree.specs.Short.{shortLeaf}
+use Rattle.slot.specs.Short.{shortAt}
 use Rattle.slot.specs.declared.Short.{Short}
 use Rattle.slot.proofs.FourBytes.{short-reads, short-kind, short-number}
 use Rattle.slot.proofs.Whole.{made-of}

@@ -5,19 +5,20 @@ use mathlib.Core.List.{List}
 use mathlib.Core.Bool.{Bool, true, false, cond}
 use native.Mathlib.Omega.{arith}
 use lib.Dec.{ltb}
-use lib.ListN.{length, getD, List·getD-eq-default}
+use lib.ListN.{length, getD}
 use borrow.Author.Tests.{lt-ltb, le-ltb, ltb-true, ltb-false}
-use Rattle.number.specs.Grammar.{name, kind, value, slot, number, done, below, read}
+use Rattle.number.specs.Grammar.{name, kind, number, done, below, read}
 use Rattle.number.proofs.Reading.{read-bind, read-number, number-on, then-on}
 use Rattle.number.proofs.InRange.{byte-in-range}
 use Rattle.tree.specs.Tree.{leaf, leafKind, leafNumber}
-use Rattle.tree.specs.TreeAt.{none, bodyAt, headAt, fill, treeAt}
 use Rattle.tree.specs.Encoding.{encodingFill, encodingAt}
 use Rattle.tree.specs.declared.Sort.the-variants.{Resolved}
 use Rattle.tree.proofs.Ranges.{each}
+use Rattle.tree.proofs.TwoBytes.{limited, number-below, leaf-reads}
 use Rattle.tree.proofs.Levels.{nested-on}
 use Rattle.slot.specs.Field.{typeAt, fieldAt}
-use Rattle.slot.specs.Short.{shortLimits, shortLimit, shortOf, shortAt, shortEncoding, shortLeaf, shortField}
+use Rattle.tree.specs.Short.{shortLimit, shortLeaf}
+use Rattle.slot.specs.Short.{shortOf, shortAt, shortEncoding, shortField}
 use Rattle.slot.specs.declared.Short.{Short}
 
 -- what is known of the four bytes
@@ -46,18 +47,6 @@ bytes-of names n e k v x y z h = go (ltb n 128) (ltb n names) (ltb e 3) (ltb v (
     go true true false d p q r t f = absurd (none-is f)
     go true false c d p q r t f = absurd (none-is f)
     go false b c d p q r t f = absurd (none-is f)
-
-pub short-past : (k : ℕ) → 4 ≤ k → 0 ≡ shortLimit k
-unfolding shortLimit
-short-past k h = sym (List·getD-eq-default shortLimits 0 {n = k} h)
-
--- kinds that have a limit
-limited : (k v : ℕ) → v < shortLimit k → k < 4
-limited k v h = go (ltb k 4) refl
-  where
-    go : (b : Bool) → ltb k 4 ≡ b → k < 4
-    go true e = ltb-true _ _ e
-    go false e = absurd (omega (arith, short-past k (ltb-false _ _ e)))
 
 -- ## The code's tests
 
@@ -126,32 +115,13 @@ module _ (names : ℕ) (s : List ℕ) (at e k v : ℕ) (h : shortAt names s at �
       ∙ then-on _ _ (read-number kind 4 s (at + 1) ∙ byte (at + 1) (at + 2) 4 e (b .encoding) (omega (arith, b .long)) (omega (arith, b .coded)) (omega (arith, b .coded)) (omega arith))
       ∙ each (λ x. read (encodingFill (encodingAt 31) x) s (at + 2) ≡ done (shortEncoding x) (at + 2)) 0 3 (refl, (refl, (refl, tt))) e (omega arith) (omega (arith, b .coded))
 
-  body-reads : v ≡ getD s (at + 3) 0 → at + 4 ≤ length s → (x : ℕ) → x < 4 → v < shortLimit x → read (bodyAt Resolved names x) s (at + 3) ≡ done (none (shortLeaf x v)) (at + 4)
-  unfolding shortLimit bodyAt read
-  body-reads i h x l =
-      each (λ y. v < shortLimit y → read (bodyAt Resolved names y) s (at + 3) ≡ done (none (shortLeaf y v)) (at + 4)) 0 4 (
-        (λ a. number-on value 14 _ s (at + 3) v (at + 4) (last 14 (omega arith) a)),
-        (
-          (λ a. absurd (omega arith)),
-          (
-            (λ a. number-on value 6 _ s (at + 3) v (at + 4) (last 6 (omega arith) a)),
-            ((λ a. number-on slot (2 ^ 32) _ s (at + 3) v (at + 4) (last (2 ^ 32) a (omega arith))), tt),
-          ),
-        ),
-      ) x (omega arith) (omega arith)
-    where
-      last : (limit : ℕ) → v < 128 → v < limit → below limit s (at + 3) ≡ done v (at + 4)
-      last limit a b = byte (at + 3) (at + 4) limit v i (omega arith) a b (omega arith)
-
   pub type-reads : read (typeAt names) s (at + 2) ≡ done (leaf (shortLeaf k v)) (at + 4)
-  unfolding treeAt headAt fill read
   type-reads =
       let b = short-bytes in
-      let l = limited k v (b .limit) in
-      let head : read (headAt Resolved names) s (at + 2) ≡ done (none (shortLeaf k v)) (at + 4) =
-      number-on kind 17 (bodyAt Resolved names) s (at + 2) k (at + 3) (byte (at + 2) (at + 3) 17 k (b .kind) (omega (arith, b .long)) (omega arith) (omega arith) (omega arith))
-      ∙ body-reads (b .number) (b .long) k l (b .limit) in
-      nested-on 17 (headAt Resolved names) fill s (at + 2) 32 (omega arith) ∙ then-on _ _ head
+      let third : at + 3 ≡ at + 2 + 1 = omega arith in
+      let end : at + 2 + 2 ≡ at + 4 = omega arith in
+      leaf-reads Resolved names s (at + 2) k v (b .kind) (b .number ∙ ap (λ (p : ℕ). getD s p 0) third) (omega (arith, b .long)) (b .limit) (omega (arith, number-below k v (b .limit))) 32 (omega arith)
+      ∙ ap (done (leaf (shortLeaf k v))) end
 
   pub short-reads : read (fieldAt names) s at ≡ done (shortField (getD s at 0) e k v) (at + 4)
   unfolding fieldAt read

@@ -7,7 +7,7 @@ ghost use mathlib.Core.Path.{_≡_};
 ghost use Rattle.number.specs.Grammar.{many, counted, read};
 ghost use Rattle.number.specs.Answers.{next, follow};
 ghost use Rattle.slot.specs.Field.{typeAt, spanAt, storedAt, fieldAt, fieldsAt};
-ghost use Rattle.slot.specs.Short.{shortLimit, shortOf, shortAt};
+ghost use Rattle.slot.specs.Short.{shortOf, shortAt};
 ghost use Rattle.slot.specs.Slot.{messageAt, ordinalsAt, enumAt, flagsAt, unionAt, newtypeAt, aliasAt, traitFieldAt, traitAt, traitSpanAt, implAt, slotBodyAt, slotAt};
 
 pub fn skip_span(image: &[u8], cursor: Next) -> Next
@@ -58,26 +58,13 @@ pub enum Short {
     Other,
 }
 
-// What the number of a kind is below, as far as a byte goes; 0 for kinds that hold something else.
-fn short_limit(kind: u64) -> u64
-    ensures { λ r. ⌜ r ≡ shortLimit kind ⌝ }
-{
-    match kind {
-        0 => 14,
-        1 => 0,
-        2 => 6,
-        3 => 128,
-        _ => 0,
-    }
-}
-
 fn short_of(name: u64, encoding: u64, kind: u64, number: u64, names: u64) -> Short
     ensures { λ r. ⌜ r ≡ shortOf name encoding kind number names ⌝ }
 {
     if name < 128 {
         if name < names {
             if encoding < 3 {
-                if number < short_limit(kind) {
+                if number < tree::short_limit(kind) {
                     return Short::Is(encoding, kind, number);
                 }
             }

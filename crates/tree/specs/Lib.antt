@@ -1,3 +1,4 @@
 pub mod Tree
 pub mod TreeAt
+pub mod Short
 pub mod Encoding

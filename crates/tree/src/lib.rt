@@ -7,6 +7,7 @@ ghost use Rattle.number.specs.Grammar.{below, number, many, read, tooDeep};
 ghost use Rattle.number.specs.Answers.{next, follow};
 ghost use Rattle.tree.specs.Tree.{Tree};
 ghost use Rattle.tree.specs.TreeAt.{kindsOf, idsOf, treeAt, headAt, bodyAt, subByteAt, bitsAt, genericAt, shape, plainHead};
+ghost use Rattle.tree.specs.Short.{shortLimit, isShort};
 ghost use Rattle.tree.specs.Encoding.{encodingAt};
 
 // A resolved type names slots; an expression names names, and has qualified names and generics besides.
@@ -129,12 +130,46 @@ fn too_deep(image: &[u8], at: usize, kinds: u64) -> Next
     }
 }
 
+// What the number of a kind is below, as far as a byte goes; 0 for kinds that hold something else.
+pub fn short_limit(kind: u64) -> u64
+    ensures { λ r. ⌜ r ≡ shortLimit kind ⌝ }
+{
+    match kind {
+        0 => 14,
+        1 => 0,
+        2 => 6,
+        3 => 128,
+        _ => 0,
+    }
+}
+
+// Whether a leaf of two bytes stands at a position: most types are such.
+fn is_short(image: &[u8], at: usize, ids: u64) -> bool
+    ensures { λ r. ⌜ r ≡ isShort ids (now (image .entry)) at ⌝ }
+{
+    if image.len() < 2 {
+        return false;
+    }
+    if image.len() - 2 < at {
+        return false;
+    }
+    let kind = number::wide(image[at]);
+    let v = number::wide(image[at + 1]);
+    if ids <= v {
+        return false;
+    }
+    v < short_limit(kind)
+}
+
 // The position after a tree of `levels` levels at most.
 pub fn read_tree(image: &[u8], at: usize, levels: usize, sort: Sort, names: u64) -> Next
     ensures { λ r. ⌜ r ≡ next (read (treeAt sort names levels) (now (image .entry)) at) ⌝ }
 {
     if levels == 0 {
         return too_deep(image, at, kinds_of(sort));
+    }
+    if is_short(image, at, ids_of(sort, names)) {
+        return Next::At(at + 2);
     }
     match read_head(image, at, sort, names) {
         Head::Leaf(_, _, _, after) => Next::At(after),

@@ -8,7 +8,8 @@ use Rattle.number.specs.Grammar.{done, read}
 use Rattle.number.proofs.Reading.{given}
 use Rattle.tree.specs.Tree.{Tree, leaf}
 use Rattle.slot.specs.Field.{typeAt, fieldAt, Field}
-use Rattle.slot.specs.Short.{shortAt, shortEncoding, shortLeaf, shortField}
+use Rattle.tree.specs.Short.{shortLeaf}
+use Rattle.slot.specs.Short.{shortAt, shortEncoding, shortField}
 use Rattle.slot.specs.declared.Short.{Short}
 use Rattle.slot.proofs.FourBytes.{short-bytes, type-reads, short-reads, short-kind, short-number}
 use Rattle.sizes.specs.Sizes.{Resolver, leafSize, typeSize, encodedSize, fieldSize, varintEnd, zigZagEnd}

@@ -1,9 +1,9 @@
 use mathlib.Core.Path.{refl}
 use native.Mathlib.Omega.{arith}
-use Rattle.slot.specs.Short.{shortLimit}
-use Rattle.slot.proofs.FourBytes.{short-past}
-use Rattle.slot.proofs.short_limit.Statement.{statement}
-use Rattle.slot.proofs.short_limit.Tie as tie
+use Rattle.tree.specs.Short.{shortLimit}
+use Rattle.tree.proofs.TwoBytes.{short-past}
+use Rattle.tree.proofs.short_limit.Statement.{statement}
+use Rattle.tree.proofs.short_limit.Tie as tie
 
 returns : tie.Need-returns
 unfolding shortLimit
