@@ -85,17 +85,27 @@ enum vexil_finding_column {
     VEXIL_FINDING_B = 5
 };
 
+/* There are two editions of an image, and nothing in the bytes tells which one they are: many are images of both, with other
+ * contents. The caller knows it and chooses the function. The functions whose names end in _two read edition two, all others
+ * edition one. In edition two a limit follows the type of each field of a message or variant, and retired ordinals or bits the
+ * list of live ones; docs/FORMAT.md describes both. The answers, refusals and tables are the same. */
+
 /* The whole check: sizes and findings. Counts the findings. The rows of the slots stand in `sizes`, those of the findings in
  * `findings`, and zeros after them; on a refusal both tables are all zero. */
 struct vexil_answer vexil_check(const uint8_t *image, size_t image_length, uint64_t *sizes, size_t sizes_length,
                                 uint32_t *findings, size_t findings_length);
 
-/* Sizes alone, never refusal 12. Counts nothing: the value of an accepted image is 0. The table is that of vexil_check. */
+struct vexil_answer vexil_check_two(const uint8_t *image, size_t image_length, uint64_t *sizes, size_t sizes_length,
+                                    uint32_t *findings, size_t findings_length);
+
+/* Sizes alone, of edition one, never refusal 12. Counts nothing: the value of an accepted image is 0. The table is that of vexil_check. */
 struct vexil_answer vexil_sizes(const uint8_t *image, size_t image_length, uint64_t *sizes, size_t sizes_length);
 
 /* Reading alone, refusals 1 to 9. Counts the slots. Into `starts` goes the byte at which each slot starts, for as many slots as
  * it has places, and zeros after them; on a refusal it is all zero. A table without places is no refusal. */
 struct vexil_answer vexil_read(const uint8_t *image, size_t image_length, size_t *starts, size_t starts_length);
+
+struct vexil_answer vexil_read_two(const uint8_t *image, size_t image_length, size_t *starts, size_t starts_length);
 
 #ifdef __cplusplus
 }

@@ -4,6 +4,7 @@ use std::ops::ControlFlow;
 use std::sync::atomic::{AtomicU64, Ordering};
 
 use crate::answer::{Answer, Whole, PROGRAM_PLACES};
+use crate::format::Edition;
 use crate::generate::{batch, Families};
 use crate::library::{calls, expected, Call, Library, Reply};
 use crate::shrink::shrink;
@@ -16,6 +17,8 @@ pub struct Selection {
     pub count: u64,
     pub seed: u64,
     pub families: Families,
+    /// How the images are to be read.
+    pub edition: Edition,
 }
 
 /// An image, as small as could be found, and a call that answers it wrongly.
@@ -50,6 +53,16 @@ impl Outcome {
 
     pub fn complete(&self) -> bool {
         self.tally.images() == self.asked
+    }
+
+    /// What a run over all families has too few of. Refusal 10 takes shorter
+    /// tables than the program's, so it is looked for among the calls.
+    pub fn below_floor(&self, edition: Edition) -> Vec<String> {
+        let mut few = self.tally.below_floor(edition);
+        if self.calls[10] == 0 {
+            few.push("calls answered 10: 0, not 1".into());
+        }
+        few
     }
 
     /// The same with the difference made as small as the library lets it; it
@@ -95,8 +108,13 @@ pub fn each_image(
     let mut left = share;
     let mut number = worker;
     while left > 0 {
-        let families = selection.families;
-        batch(selection.seed, number, families, |family, image| {
+        let Selection {
+            seed,
+            families,
+            edition,
+            ..
+        } = selection;
+        batch(seed, number, families, edition, |family, image| {
             if left > 0 {
                 left -= 1;
                 if visit(family, image).is_break() {
@@ -108,8 +126,9 @@ pub fn each_image(
     }
 }
 
-/// Compares a library with the Rust on generated images.
+/// Compares a library with the Rust on generated images of its edition.
 pub fn compare(selection: Selection, ours: Library) -> Outcome {
+    assert_eq!(selection.edition, ours.edition, "images and library");
     let lowest = AtomicU64::new(u64::MAX);
     let outcomes = in_parallel(|worker| {
         let mut pair = Pair::new(ours, worker, &lowest);
@@ -119,35 +138,46 @@ pub fn compare(selection: Selection, ours: Library) -> Outcome {
     joined(outcomes, selection.count)
 }
 
-/// Compares on all images of up to `bytes` bytes; the family does not count.
+/// Images that stop where edition two adds a number: the limit of a message
+/// field and of a variant field, the retired count of an enum and of flags, and
+/// a retired ordinal.
+const BEFORE_ADDED: [&[u8]; 5] = [
+    &[1, 0, 1, 1, 0, 0, 0, 1, 0, 0, 0, 1],
+    &[1, 0, 1, 4, 0, 1, 1, 0, 0, 0, 1],
+    &[0, 1, 2, 0, 0, 0, 0],
+    &[0, 1, 3, 0, 1, 4],
+    &[0, 1, 2, 0, 0, 0, 0, 1],
+];
+
+/// Compares on all images of up to `bytes` bytes, in edition two also on all of
+/// a byte less after such as stop where a number is added; the family does not
+/// count.
 pub fn exhaustive(bytes: usize, ours: Library) -> Outcome {
+    let mut beginnings: Vec<(&[u8], usize)> = vec![(&[], bytes)];
+    if ours.edition == Edition::Two {
+        beginnings.extend(BEFORE_ADDED.map(|before| (before, bytes.saturating_sub(1))));
+    }
     let lowest = AtomicU64::new(u64::MAX);
     let outcomes = in_parallel(|worker| {
         let mut pair = Pair::new(ours, worker, &lowest);
-        for length in 0..=bytes {
-            let mut image = vec![0; length];
-            let mut turn = 0;
-            loop {
-                // The workers share the images by their last byte.
-                let mine = turn % THREADS == worker;
-                if mine && pair.run(&image, 0).is_break() {
-                    return pair.outcome;
-                }
-                turn += 1;
-                if !advance(&mut image) {
-                    break;
-                }
+        for &(before, bytes) in &beginnings {
+            if pair.run_all(before, bytes, worker).is_break() {
+                break;
             }
         }
         pair.outcome
     });
-    let asked = (0..=bytes).map(|length| 256u64.pow(length as u32)).sum();
+    let images = |bytes: usize| (0..=bytes).map(|length| 256u64.pow(length as u32));
+    let asked = beginnings
+        .iter()
+        .flat_map(|&(_, bytes)| images(bytes))
+        .sum();
     joined(outcomes, asked)
 }
 
-/// The next image of this length, the last byte counting up first.
-fn advance(image: &mut [u8]) -> bool {
-    for byte in image.iter_mut().rev() {
+/// The next bytes of this length, the last one counting up first.
+fn advance(bytes: &mut [u8]) -> bool {
+    for byte in bytes.iter_mut().rev() {
         *byte = byte.wrapping_add(1);
         if *byte != 0 {
             return true;
@@ -175,6 +205,27 @@ impl<'a> Pair<'a> {
         }
     }
 
+    /// Runs over this worker's share of the images that begin so and have up to
+    /// so many bytes more.
+    fn run_all(&mut self, before: &[u8], bytes: usize, worker: u64) -> ControlFlow<()> {
+        for length in 0..=bytes {
+            let mut image = before.to_vec();
+            image.resize(before.len() + length, 0);
+            let mut turn = 0;
+            loop {
+                // The workers share the images by their last byte.
+                if turn % THREADS == worker {
+                    self.run(&image, 0)?;
+                }
+                turn += 1;
+                if !advance(&mut image[before.len()..]) {
+                    break;
+                }
+            }
+        }
+        ControlFlow::Continue(())
+    }
+
     /// Runs over one image; breaks off at one that differs, and past the
     /// lowest that does.
     fn run(&mut self, image: &[u8], family: usize) -> ControlFlow<()> {
@@ -185,6 +236,9 @@ impl<'a> Pair<'a> {
         let column = column(&whole, self.ours);
         self.outcome.tally.count(family, column);
         self.outcome.tally.look_into(family, &whole);
+        if self.ours.edition == Edition::Two {
+            self.outcome.tally.look_across(image, &whole);
+        }
         let differs = first_difference(image, &whole, self.ours, &mut self.outcome.calls);
         if differs.is_some() {
             self.lowest.fetch_min(self.number, Ordering::Relaxed);
@@ -200,8 +254,8 @@ impl<'a> Pair<'a> {
 /// Findings are worked out only if the library has them.
 fn worked_out(image: &[u8], ours: Library) -> Whole {
     match ours.check {
-        Some(_) => Whole::of(image),
-        None => Whole::sizes_of(image),
+        Some(_) => Whole::of(image, ours.edition),
+        None => Whole::sizes_of(image, ours.edition),
     }
 }
 
@@ -225,7 +279,7 @@ fn first_difference(
     ours: Library,
     counts: &mut [u64; COLUMNS],
 ) -> Option<Difference> {
-    for call in calls(whole, ours.check.is_some()) {
+    for call in calls(whole, ours) {
         let Ok(expected) = expected(whole, call) else {
             counts[TOO_LONG] += 1;
             continue;

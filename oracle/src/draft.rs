@@ -1,32 +1,37 @@
 //! The bytes of a schema, with the place and limit of each number.
 
 use crate::format::{
-    write_number, BACKING_LIMIT, BYTE_LIMIT, COUNT_LIMIT, DECLARATION_LIMIT, ENCODING_LIMIT,
-    EXPRESSION_KIND_LIMIT, NAME_LIMIT, PRIMITIVE_LIMIT, SEMANTIC_LIMIT, SIZE_LIMIT,
+    write_number, Edition, BACKING_LIMIT, BYTE_LIMIT, COUNT_LIMIT, DECLARATION_LIMIT,
+    ENCODING_LIMIT, EXPRESSION_KIND_LIMIT, NAME_LIMIT, PRIMITIVE_LIMIT, SEMANTIC_LIMIT, SIZE_LIMIT,
     SLOT_KIND_LIMIT, SLOT_LIMIT, STORED_LIMIT, TYPE_KIND_LIMIT, U32_LIMIT,
 };
-use crate::model::{Field, Impl, Schema, Slot, Stored, Tree};
+use crate::model::{Field, Impl, Ordinals, Schema, Slot, Stored, Tree};
 
 /// A number of a written image: where it begins and the greatest it may be.
 #[derive(Debug, Clone, Copy, PartialEq)]
 pub struct Number {
     pub at: usize,
     pub limit: u64,
+    /// Edition two alone has it.
+    pub added: bool,
 }
 
 /// A written image and all its numbers.
-#[derive(Debug, Clone, Default)]
+#[derive(Debug, Clone)]
 pub struct Draft {
     pub bytes: Vec<u8>,
     pub numbers: Vec<Number>,
+    edition: Edition,
     name_limit: u64,
 }
 
 impl Draft {
-    pub fn new(schema: &Schema) -> Self {
+    pub fn new(schema: &Schema, edition: Edition) -> Self {
         let mut draft = Self {
+            bytes: Vec::new(),
+            numbers: Vec::new(),
+            edition,
             name_limit: (schema.names.len() as u64).saturating_sub(1),
-            ..Self::default()
         };
         draft.number(schema.names.len() as u64, NAME_LIMIT);
         for &find in &schema.names {
@@ -47,8 +52,21 @@ impl Draft {
         self.numbers.push(Number {
             at: self.bytes.len(),
             limit,
+            added: false,
         });
         write_number(value, &mut self.bytes);
+    }
+
+    /// Writes what edition two adds.
+    fn added(&mut self, write: impl FnOnce(&mut Self)) {
+        if self.edition == Edition::One {
+            return;
+        }
+        let first = self.numbers.len();
+        write(self);
+        for number in &mut self.numbers[first..] {
+            number.added = true;
+        }
     }
 
     fn name(&mut self, name: u64) {
@@ -100,14 +118,20 @@ impl Draft {
                 self.number(*backing, BACKING_LIMIT);
                 self.number(*non_exhaustive, 1);
                 self.number(*bits, BYTE_LIMIT);
-                self.list(ordinals, |draft, &one| draft.number(one, U32_LIMIT));
+                self.ordinals(ordinals);
             }
             Slot::Flags { bytes, bits } => {
                 self.number(*bytes, BYTE_LIMIT);
-                self.list(bits, |draft, &one| draft.number(one, U32_LIMIT));
+                self.ordinals(bits);
             }
             _ => {}
         }
+    }
+
+    fn ordinals(&mut self, ordinals: &Ordinals) {
+        let one = |draft: &mut Self, &one: &u64| draft.number(one, U32_LIMIT);
+        self.list(&ordinals.live, one);
+        self.added(|draft| draft.list(&ordinals.retired, one));
     }
 
     fn generic_slot(&mut self, slot: &Slot) {
@@ -163,6 +187,7 @@ impl Draft {
         }
         self.number(field.encoding.last, ENCODING_LIMIT);
         self.type_tree(&field.tree);
+        self.added(|draft| draft.number(field.limit, U32_LIMIT));
     }
 
     fn type_tree(&mut self, tree: &Tree) {

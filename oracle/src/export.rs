@@ -5,13 +5,16 @@ use std::fmt;
 
 use crate::ast::{EnumBacking, PrimitiveType, SemanticType, TypeExpr};
 use crate::format::{
-    COUNT_LIMIT, DECLARATION_LIMIT, IMAGE_LIMIT, LEVEL_LIMIT, NAME_LIMIT, SIZE_LIMIT, SLOT_LIMIT,
-    U32_LIMIT,
+    Edition, COUNT_LIMIT, DECLARATION_LIMIT, IMAGE_LIMIT, LEVEL_LIMIT, NAME_LIMIT, SIZE_LIMIT,
+    SLOT_LIMIT, U32_LIMIT,
 };
 use crate::ir::{
-    CompiledSchema, Encoding, FieldDef, ImplDef, ResolvedType, TypeDef, TypeId, WireSize,
+    CompiledSchema, Encoding, FieldDef, ImplDef, ResolvedType, TombstoneDef, TypeDef, TypeId,
+    WireSize,
 };
-use crate::model::{self, fixed, generic, pair, wrap, Field, Impl, Schema, Slot, Stored, Tree};
+use crate::model::{
+    self, fixed, generic, pair, wrap, Field, Impl, Ordinals, Schema, Slot, Stored, Tree,
+};
 use crate::span::Span;
 use smol_str::SmolStr;
 
@@ -29,6 +32,8 @@ pub enum Unfit {
     StoredSize,
     /// A trait id that leaves no room for id + 1.
     TraitId,
+    /// A field's limit above 2^32 - 1, or one of 0, which stands for none.
+    Limit,
     Bytes,
 }
 
@@ -42,6 +47,7 @@ impl fmt::Display for Unfit {
             Unfit::Levels => "a type, expression or encoding past 32 levels",
             Unfit::StoredSize => "a stored size above 2^63 - 1",
             Unfit::TraitId => "a trait id above 2^32 - 2",
+            Unfit::Limit => "a field's limit of 0 or above 2^32 - 1",
             Unfit::Bytes => "more than 65,536 bytes",
         })
     }
@@ -52,9 +58,11 @@ impl std::error::Error for Unfit {}
 type Fit<T> = Result<T, Unfit>;
 
 /// Writes a schema as an image, names numbered by first use in its bytes.
-pub fn export(schema: &CompiledSchema) -> Fit<Vec<u8>> {
+/// Edition one has no place for limits and retired ones and leaves them out.
+pub fn export(schema: &CompiledSchema, edition: Edition) -> Fit<Vec<u8>> {
     let mut exporter = Exporter {
         schema,
+        edition,
         numbers: HashMap::new(),
         finds: Vec::new(),
     };
@@ -68,7 +76,7 @@ pub fn export(schema: &CompiledSchema) -> Fit<Vec<u8>> {
     check(model.names.len() as u64, NAME_LIMIT, Unfit::Names)?;
     let count = model.declarations.len() as u64;
     check(count, DECLARATION_LIMIT, Unfit::Declarations)?;
-    let bytes = model.bytes();
+    let bytes = model.bytes(edition);
     check(bytes.len() as u64, IMAGE_LIMIT as u64, Unfit::Bytes)?;
     Ok(bytes)
 }
@@ -82,6 +90,7 @@ fn check(value: u64, limit: u64, unfit: Unfit) -> Fit<()> {
 
 struct Exporter<'a> {
     schema: &'a CompiledSchema,
+    edition: Edition,
     numbers: HashMap<SmolStr, u64>,
     /// Per name number 0, or the slot that `find_type` answers + 1.
     finds: Vec<u64>,
@@ -128,11 +137,11 @@ impl Exporter<'_> {
                 backing: backing(&en.backing),
                 non_exhaustive: u64::from(en.annotations.non_exhaustive),
                 bits: u64::from(en.wire_bits),
-                ordinals: list(en.variants.iter().map(|v| v.ordinal.into()).collect())?,
+                ordinals: self.ordinals(en.variants.iter().map(|v| v.ordinal), &en.tombstones)?,
             },
             TypeDef::Flags(flags) => Slot::Flags {
                 bytes: u64::from(flags.wire_bytes),
-                bits: list(flags.bits.iter().map(|b| b.bit.into()).collect())?,
+                bits: self.ordinals(flags.bits.iter().map(|b| b.bit), &flags.tombstones)?,
             },
             TypeDef::Union(un) => Slot::Union {
                 stored: stored(&un.wire_size)?,
@@ -196,9 +205,33 @@ impl Exporter<'_> {
                 name: self.name(&field.name),
                 encoding: encoding(&field.encoding.encoding)?,
                 tree: self.whole_type(&field.resolved_type)?,
+                limit: self.limit(field)?,
             });
         }
         list(out)
+    }
+
+    fn limit(&self, field: &FieldDef) -> Fit<u64> {
+        match (self.edition, field.encoding.limit) {
+            (Edition::One, _) | (Edition::Two, None) => Ok(0),
+            (Edition::Two, Some(0)) => Err(Unfit::Limit),
+            (Edition::Two, Some(limit)) => check(limit, U32_LIMIT, Unfit::Limit).map(|()| limit),
+        }
+    }
+
+    fn ordinals(
+        &self,
+        live: impl Iterator<Item = u32>,
+        tombstones: &[TombstoneDef],
+    ) -> Fit<Ordinals> {
+        let retired = match self.edition {
+            Edition::One => &[],
+            Edition::Two => tombstones,
+        };
+        Ok(Ordinals {
+            live: list(live.map(u64::from).collect())?,
+            retired: list(retired.iter().map(|one| one.ordinal.into()).collect())?,
+        })
     }
 
     fn whole_type(&mut self, ty: &ResolvedType) -> Fit<Tree> {

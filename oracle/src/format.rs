@@ -1,4 +1,18 @@
-//! The numbers of a schema image and their limits.
+//! The numbers of a schema image, their limits, and the editions.
+
+/// How an image is written. Nothing in its bytes tells: whoever reads or
+/// writes one is told.
+#[derive(Debug, Clone, Copy, PartialEq, Eq)]
+pub enum Edition {
+    One,
+    /// Fields of messages and variants have limits; enums and flags have
+    /// retired ordinals and bits.
+    Two,
+}
+
+impl Edition {
+    pub const ALL: [Edition; 2] = [Edition::One, Edition::Two];
+}
 
 /// Most bytes of an image.
 pub const IMAGE_LIMIT: usize = 65_536;

@@ -4,7 +4,7 @@
 use std::fmt;
 
 use crate::answer::{Answer, Places, TooLong, Whole, PROGRAM_PLACES};
-use crate::format::SLOT_LIMIT;
+use crate::format::{Edition, SLOT_LIMIT};
 
 /// `number` 0 is accepted, with a count as `value`; else it is the refusal and
 /// `value` its place.
@@ -22,10 +22,13 @@ pub type Sizer = fn(&[u8], &mut [u64]) -> Verdict;
 /// Fills in sizes, and six numbers a finding; the value is the finding count.
 pub type Checker = fn(&[u8], &mut [u64], &mut [u32]) -> Verdict;
 
+/// The functions for images of one edition.
 #[derive(Clone, Copy)]
 pub struct Library {
+    pub edition: Edition,
     pub read: Reader,
-    pub sizes: Sizer,
+    /// Edition two has no function for sizes alone.
+    pub sizes: Option<Sizer>,
     /// None leaves the findings out, which take longest to compare.
     pub check: Option<Checker>,
 }
@@ -67,7 +70,8 @@ impl Library {
             }
             Call::Sizes { sizes } => {
                 let mut table = vec![MARK; sizes + GUARD];
-                let verdict = (self.sizes)(image, &mut table[..sizes]);
+                let size = self.sizes.expect("called only if there is one");
+                let verdict = size(image, &mut table[..sizes]);
                 reply(verdict, table, vec![FINDING_MARK; GUARD])
             }
             Call::Check { sizes, findings } => {
@@ -150,7 +154,7 @@ fn lengths(exact: usize, usual: usize) -> Vec<usize> {
 }
 
 /// The calls that an image is tried with.
-pub fn calls(whole: &Whole, with_check: bool) -> Vec<Call> {
+pub fn calls(whole: &Whole, library: Library) -> Vec<Call> {
     let slots = whole.starts.len();
     let mut calls = vec![Call::Read {
         starts: SLOT_LIMIT as usize,
@@ -158,8 +162,10 @@ pub fn calls(whole: &Whole, with_check: bool) -> Vec<Call> {
     // A table of another length gets as many starts as fit.
     calls.extend(slots.checked_sub(1).map(|starts| Call::Read { starts }));
     let sizes = lengths(3 * slots, PROGRAM_PLACES.sizes as usize);
-    calls.extend(sizes.iter().map(|&sizes| Call::Sizes { sizes }));
-    if with_check {
+    if library.sizes.is_some() {
+        calls.extend(sizes.iter().map(|&sizes| Call::Sizes { sizes }));
+    }
+    if library.check.is_some() {
         calls.extend(check_calls(whole, &sizes));
     }
     calls
@@ -191,33 +197,46 @@ fn check_calls(whole: &Whole, sizes: &[usize]) -> Vec<Call> {
 
 /// The Rust side with the library's interface, sizes and findings included.
 pub const REFERENCE: Library = Library {
-    read: |image, starts| {
-        let call = Call::Read {
-            starts: starts.len(),
-        };
-        let reply = told(&Whole::sizes_of(image), call);
-        for (place, &start) in starts.iter_mut().zip(&reply.table) {
-            *place = start as usize;
-        }
-        reply.verdict
-    },
-    sizes: |image, sizes| {
+    edition: Edition::One,
+    read: |image, starts| read(image, Edition::One, starts),
+    sizes: Some(|image, sizes| {
         let call = Call::Sizes { sizes: sizes.len() };
-        let reply = told(&Whole::sizes_of(image), call);
+        let reply = told(&Whole::sizes_of(image, Edition::One), call);
         sizes.copy_from_slice(&reply.table);
-        reply.verdict
-    },
-    check: Some(|image, sizes, findings| {
-        let call = Call::Check {
-            sizes: sizes.len(),
-            findings: findings.len(),
-        };
-        let reply = told(&Whole::of(image), call);
-        sizes.copy_from_slice(&reply.table);
-        findings.copy_from_slice(&reply.findings);
         reply.verdict
     }),
+    check: Some(|image, sizes, findings| check(image, Edition::One, sizes, findings)),
 };
+
+/// The same for edition two.
+pub const REFERENCE_TWO: Library = Library {
+    edition: Edition::Two,
+    read: |image, starts| read(image, Edition::Two, starts),
+    sizes: None,
+    check: Some(|image, sizes, findings| check(image, Edition::Two, sizes, findings)),
+};
+
+fn read(image: &[u8], edition: Edition, starts: &mut [usize]) -> Verdict {
+    let call = Call::Read {
+        starts: starts.len(),
+    };
+    let reply = told(&Whole::sizes_of(image, edition), call);
+    for (place, &start) in starts.iter_mut().zip(&reply.table) {
+        *place = start as usize;
+    }
+    reply.verdict
+}
+
+fn check(image: &[u8], edition: Edition, sizes: &mut [u64], findings: &mut [u32]) -> Verdict {
+    let call = Call::Check {
+        sizes: sizes.len(),
+        findings: findings.len(),
+    };
+    let reply = told(&Whole::of(image, edition), call);
+    sizes.copy_from_slice(&reply.table);
+    findings.copy_from_slice(&reply.findings);
+    reply.verdict
+}
 
 fn told(whole: &Whole, call: Call) -> Reply {
     expected(whole, call).expect("called only on images that do not take too long")

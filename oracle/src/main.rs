@@ -11,8 +11,8 @@ use oracle::bench::bench;
 use oracle::compare::{compare, exhaustive, smallest_difference, Difference, Outcome, Selection};
 use oracle::example::bond_report;
 use oracle::export::export;
-use oracle::format::SLOT_LIMIT;
-use oracle::generate::{family_named, Families, FAMILIES};
+use oracle::format::{Edition, SLOT_LIMIT};
+use oracle::generate::{family_named, in_edition, Families};
 use oracle::lengths;
 use oracle::library::{Call, Library, Verdict};
 use oracle::program;
@@ -20,7 +20,7 @@ use oracle::record::{record, record_lines, write_images};
 use oracle::stack::{self, Subject};
 use oracle::stress;
 use oracle::survey::survey;
-use oracle::tally::{Tally, COLUMNS, TOO_LONG};
+use oracle::tally::{COLUMNS, TOO_LONG};
 use oracle::workers::on_long_stack;
 
 const USAGE: &str = "\
@@ -29,18 +29,19 @@ oracle exhaustive --bytes N                      ours and the Rust on all short 
 oracle read < image                              what ours answers, and where the slots start
 oracle shrink < image                            the smallest image that differs like this one
 oracle survey --count N --seed S [--family F]    whole answers of the Rust alone, counted
-oracle record --count N --seed S --out FILE      images and how they are read
-oracle record-lines --count N --seed S --out FILE  images and the lines of vexcheck
 oracle images --count N --seed S --out FOLDER    images that are not long, a file each
-oracle program --binary FILE --count N --seed S  a vexcheck and the Rust on generated images
-oracle stress --binary FILE --count N --seed S   a vexcheck and the Rust on deep images
-oracle lengths --count N --seed S                enumerated lengths beside the size tables
-oracle bench                                     times of reading, sizes, check; ratios
-oracle stack                                     deep images on stacks of the recorded size
-oracle stack --measure                           the least stacks, to be recorded
 oracle answer < image                            the lines of vexcheck
 oracle export-example > image                    the bond report as an image
 oracle families                                  the families of generated images
+These take --edition 1, which is meant where it is not said, or --edition 2. The others do not:
+oracle record --count N --seed S --out FILE      images and how they are read
+oracle record-lines --count N --seed S --out FILE  images and the lines of vexcheck
+oracle program --binary FILE --count N --seed S  a vexcheck and the Rust on generated images
+oracle stress --binary FILE --count N --seed S   a vexcheck and the Rust on deep images
+oracle lengths --count N --seed S                enumerated lengths beside the size tables
+oracle bench                                     times of reading, sizes, check; ratios, also of editions
+oracle stack                                     deep images on stacks of the recorded size
+oracle stack --measure                           the least stacks, to be recorded
 compare, exhaustive, read and shrink need the feature `ours`, which links the library.
 ";
 
@@ -67,8 +68,8 @@ fn run(arguments: &[String]) -> Result<bool, Failure> {
     match command.as_str() {
         "compare" => return run_compare(options),
         "exhaustive" => return run_exhaustive(options),
-        "read" => run_read()?,
-        "shrink" => return run_shrink(),
+        "read" => run_read(options)?,
+        "shrink" => return run_shrink(options),
         "survey" => return run_survey(options),
         "record" => run_record(options)?,
         "record-lines" => run_record_lines(options)?,
@@ -76,11 +77,17 @@ fn run(arguments: &[String]) -> Result<bool, Failure> {
         "program" => return run_program(options),
         "stress" => return run_stress(options),
         "lengths" => return run_lengths(options),
-        "bench" => on_long_stack(|| bench(ours().ok())),
+        "bench" => {
+            edition_one(options)?;
+            on_long_stack(|| bench(ours(Edition::One).ok(), ours(Edition::Two).ok()));
+        }
         "stack" => return run_stack(options),
-        "answer" => run_answer()?,
-        "export-example" => io::stdout().write_all(&export(&bond_report())?)?,
-        "families" => FAMILIES
+        "answer" => run_answer(options)?,
+        "export-example" => {
+            let image = export(&bond_report(), edition(options)?)?;
+            io::stdout().write_all(&image)?;
+        }
+        "families" => in_edition(edition(options)?)
             .iter()
             .for_each(|family| println!("{}", family.name)),
         _ => return Err(format!("no command {command}\n{USAGE}").into()),
@@ -89,18 +96,41 @@ fn run(arguments: &[String]) -> Result<bool, Failure> {
 }
 
 #[cfg(feature = "ours")]
-fn ours() -> Result<Library, Failure> {
-    Ok(oracle::ours::OURS)
+fn ours(edition: Edition) -> Result<Library, Failure> {
+    Ok(match edition {
+        Edition::One => oracle::ours::OURS,
+        Edition::Two => oracle::ours::OURS_TWO,
+    })
 }
 
 #[cfg(not(feature = "ours"))]
-fn ours() -> Result<Library, Failure> {
+fn ours(_: Edition) -> Result<Library, Failure> {
     Err("built without the feature `ours`".into())
 }
 
 fn option<'a>(options: &'a [String], name: &str) -> Option<&'a str> {
     let at = options.iter().position(|option| option == name)?;
     options.get(at + 1).map(String::as_str)
+}
+
+fn edition(options: &[String]) -> Result<Edition, Failure> {
+    if options.iter().all(|option| option != "--edition") {
+        return Ok(Edition::One);
+    }
+    match option(options, "--edition") {
+        Some("1") => Ok(Edition::One),
+        Some("2") => Ok(Edition::Two),
+        Some(other) => Err(format!("--edition is 1 or 2, not {other}").into()),
+        None => Err("--edition is 1 or 2".into()),
+    }
+}
+
+/// For commands that do not take another.
+fn edition_one(options: &[String]) -> Result<(), Failure> {
+    match edition(options)? {
+        Edition::One => Ok(()),
+        Edition::Two => Err("this command has no --edition 2".into()),
+    }
 }
 
 fn number(options: &[String], name: &str) -> Result<u64, Failure> {
@@ -110,15 +140,25 @@ fn number(options: &[String], name: &str) -> Result<u64, Failure> {
 }
 
 fn selection(options: &[String]) -> Result<Selection, Failure> {
+    let edition = edition(options)?;
     let families = match option(options, "--family") {
         None => Families::All,
-        Some(name) => Families::One(family_named(name).ok_or_else(|| format!("no family {name}"))?),
+        Some(name) => {
+            let family = family_named(name, edition);
+            Families::One(family.ok_or_else(|| format!("no family {name} in this edition"))?)
+        }
     };
     Ok(Selection {
         count: number(options, "--count")?,
         seed: number(options, "--seed")?,
         families,
+        edition,
     })
+}
+
+fn selection_one(options: &[String]) -> Result<Selection, Failure> {
+    edition_one(options)?;
+    selection(options)
 }
 
 fn image_from_input() -> io::Result<Vec<u8>> {
@@ -128,34 +168,36 @@ fn image_from_input() -> io::Result<Vec<u8>> {
 }
 
 fn run_compare(options: &[String]) -> Result<bool, Failure> {
-    let (selection, ours) = (selection(options)?, ours()?);
+    let selection = selection(options)?;
+    let ours = ours(selection.edition)?;
     let start = Instant::now();
     let outcome = compare(selection, ours).shrunk(ours);
     print!("{}", outcome.tally);
-    let enough = enough(selection, &outcome.tally);
+    let enough = enough(selection, || outcome.below_floor(selection.edition));
     Ok(report("compare", &outcome, start) && enough)
 }
 
 /// Whether a run over all families met enough of each kind; tells if not.
-fn enough(selection: Selection, tally: &Tally) -> bool {
+fn enough(selection: Selection, below_floor: impl Fn() -> Vec<String>) -> bool {
     if selection.families != Families::All {
         return true;
     }
-    let few = tally.below_floor();
+    let few = below_floor();
     few.iter().for_each(|few| println!("TOO FEW {few}"));
     few.is_empty()
 }
 
 fn run_exhaustive(options: &[String]) -> Result<bool, Failure> {
-    let (bytes, ours) = (number(options, "--bytes")?, ours()?);
+    let (bytes, ours) = (number(options, "--bytes")?, ours(edition(options)?)?);
     let start = Instant::now();
     let outcome = exhaustive(bytes as usize, ours).shrunk(ours);
     println!("images {}", by_number(&outcome.tally.totals()));
     Ok(report("exhaustive", &outcome, start))
 }
 
-fn run_read() -> Result<(), Failure> {
-    let (image, ours) = (image_from_input()?, ours()?);
+fn run_read(options: &[String]) -> Result<(), Failure> {
+    let ours = ours(edition(options)?)?;
+    let image = image_from_input()?;
     let call = Call::Read {
         starts: SLOT_LIMIT as usize,
     };
@@ -174,7 +216,8 @@ fn run_read() -> Result<(), Failure> {
 
 /// Holds or measures, or answers one case as a process of its own.
 fn run_stack(options: &[String]) -> Result<bool, Failure> {
-    let ours = ours().ok();
+    edition_one(options)?;
+    let ours = ours(Edition::One).ok();
     if options.iter().any(|option| option == "--measure") {
         stack::measure(ours)?;
         return Ok(true);
@@ -191,9 +234,9 @@ fn run_stack(options: &[String]) -> Result<bool, Failure> {
     Ok(true)
 }
 
-fn run_shrink() -> Result<bool, Failure> {
+fn run_shrink(options: &[String]) -> Result<bool, Failure> {
+    let ours = ours(edition(options)?)?;
     let image = image_from_input()?;
-    let ours = ours()?;
     let difference = on_long_stack(|| smallest_difference(&image, ours));
     match &difference {
         None => println!("no difference"),
@@ -210,7 +253,7 @@ fn run_survey(options: &[String]) -> Result<bool, Failure> {
     if let Some(image) = &survey.failed {
         println!("the check failed on {}", hex(image));
     }
-    let enough = enough(selection, &survey.tally);
+    let enough = enough(selection, || survey.tally.below_floor(selection.edition));
     let images = survey.tally.images();
     let seconds = start.elapsed().as_secs_f64();
     println!("survey: {images} images, {seconds:.1} s");
@@ -226,7 +269,7 @@ fn run_record(options: &[String]) -> Result<(), Failure> {
     let mut out = output_file(options)?;
     let selection = Selection {
         families: Families::Reading,
-        ..selection(options)?
+        ..selection_one(options)?
     };
     record(selection, &mut out)?;
     out.flush()?;
@@ -235,7 +278,7 @@ fn run_record(options: &[String]) -> Result<(), Failure> {
 
 fn run_record_lines(options: &[String]) -> Result<(), Failure> {
     let mut out = output_file(options)?;
-    record_lines(selection(options)?, &mut out)?;
+    record_lines(selection_one(options)?, &mut out)?;
     out.flush()?;
     Ok(())
 }
@@ -248,7 +291,7 @@ fn run_images(options: &[String]) -> Result<(), Failure> {
 
 fn run_program(options: &[String]) -> Result<bool, Failure> {
     let binary = option(options, "--binary").ok_or("--binary is missing")?;
-    let selection = selection(options)?;
+    let selection = selection_one(options)?;
     let start = Instant::now();
     let outcome = program::run(selection, &|| Command::new(binary))?;
     if let Some(wrong) = &outcome.wrong {
@@ -271,10 +314,10 @@ fn run_program(options: &[String]) -> Result<bool, Failure> {
 
 fn run_stress(options: &[String]) -> Result<bool, Failure> {
     let binary = option(options, "--binary").ok_or("--binary is missing")?;
-    let deep = family_named("deep").ok_or("no family deep")?;
+    let deep = family_named("deep", Edition::One).ok_or("no family deep")?;
     let selection = Selection {
         families: Families::One(deep),
-        ..selection(options)?
+        ..selection_one(options)?
     };
     let start = Instant::now();
     let outcome = stress::run(binary, selection)?;
@@ -307,9 +350,10 @@ fn run_stress(options: &[String]) -> Result<bool, Failure> {
 }
 
 fn run_lengths(options: &[String]) -> Result<bool, Failure> {
+    edition_one(options)?;
     let (count, seed) = (number(options, "--count")?, number(options, "--seed")?);
     let start = Instant::now();
-    let summary = lengths::run(count, seed, &lengths::subjects(ours().ok()));
+    let summary = lengths::run(count, seed, &lengths::subjects(ours(Edition::One).ok()));
     println!("per clause: held (held though a proviso is not met, past the horizon)");
     print!("{summary}");
     if let Some(broken) = &summary.broken {
@@ -329,10 +373,11 @@ fn run_lengths(options: &[String]) -> Result<bool, Failure> {
     Ok(summary.broken.is_none() && low.is_empty())
 }
 
-fn run_answer() -> Result<(), Failure> {
+fn run_answer(options: &[String]) -> Result<(), Failure> {
+    let edition = edition(options)?;
     let text = match image_from_input() {
         Err(_) => "vexil-typeck 1\nrefused 0 0\n".into(),
-        Ok(image) => match on_long_stack(|| patient_answer(&image)) {
+        Ok(image) => match on_long_stack(|| patient_answer(&image, edition)) {
             Ok(answer) => lines(&answer),
             Err(_) => return Err("the check would take too long".into()),
         },
@@ -341,8 +386,8 @@ fn run_answer() -> Result<(), Failure> {
     Ok(())
 }
 
-fn patient_answer(image: &[u8]) -> Result<Answer, TooLong> {
-    Whole::within(image, PATIENT_STEP_LIMIT).answer(PROGRAM_PLACES)
+fn patient_answer(image: &[u8], edition: Edition) -> Result<Answer, TooLong> {
+    Whole::within(image, edition, PATIENT_STEP_LIMIT).answer(PROGRAM_PLACES)
 }
 
 /// Prints a difference, if any, and the summary line.

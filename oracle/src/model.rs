@@ -2,6 +2,7 @@
 //! in range or not, so that a tree can also stand for an image to refuse.
 
 use crate::draft::Draft;
+use crate::format::Edition;
 
 pub const OPTIONAL: u64 = 4;
 pub const ARRAY: u64 = 5;
@@ -71,14 +72,33 @@ pub struct Field {
     pub name: u64,
     pub encoding: Encoding,
     pub tree: Tree,
+    /// Most elements, 0 for no limit; written in edition two alone.
+    pub limit: u64,
 }
 
-/// A field of default encoding.
+/// A field of default encoding and without limit.
 pub fn field(name: u64, tree: Tree) -> Field {
     Field {
         name,
         encoding: Encoding { deltas: 0, last: 0 },
         tree,
+        limit: 0,
+    }
+}
+
+/// Ordinals of an enum or bits of flags.
+#[derive(Debug, Clone, PartialEq)]
+pub struct Ordinals {
+    pub live: Vec<u64>,
+    /// Written in edition two alone.
+    pub retired: Vec<u64>,
+}
+
+/// Live ones alone.
+pub fn live(live: Vec<u64>) -> Ordinals {
+    Ordinals {
+        live,
+        retired: Vec::new(),
     }
 }
 
@@ -104,11 +124,11 @@ pub enum Slot {
         backing: u64,
         non_exhaustive: u64,
         bits: u64,
-        ordinals: Vec<u64>,
+        ordinals: Ordinals,
     },
     Flags {
         bytes: u64,
-        bits: Vec<u64>,
+        bits: Ordinals,
     },
     Union {
         stored: Stored,
@@ -165,7 +185,9 @@ pub fn declared(names: Vec<u64>, slots: Vec<Slot>) -> Schema {
 }
 
 impl Schema {
-    pub fn bytes(&self) -> Vec<u8> {
-        Draft::new(self).bytes
+    /// The image in an edition. In edition one, limits and retired ones are
+    /// left out.
+    pub fn bytes(&self, edition: Edition) -> Vec<u8> {
+        Draft::new(self, edition).bytes
     }
 }

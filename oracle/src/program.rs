@@ -8,6 +8,7 @@ use std::process::{Command, ExitStatus, Stdio};
 
 use crate::answer::{answer, lines, PROGRAM_PLACES};
 use crate::compare::{each_image, Selection};
+use crate::format::Edition;
 use crate::specials::specials;
 use crate::stack;
 use crate::workers::{on_long_stack, THREADS};
@@ -129,7 +130,7 @@ impl Outcome {
         program: &dyn Fn() -> Command,
         known: &[Vec<u8>],
     ) -> io::Result<ControlFlow<()>> {
-        let Ok(answer) = answer(image, PROGRAM_PLACES) else {
+        let Ok(answer) = answer(image, Edition::One, PROGRAM_PLACES) else {
             self.too_long += 1;
             return Ok(ControlFlow::Continue(()));
         };

@@ -1,4 +1,4 @@
-//! Lists of images and their answers, for replay elsewhere. A file is a
+//! Lists of images of edition one and their answers, for replay elsewhere. A file is a
 //! sequence of records up to its end: no header, no count, nothing between
 //! records or their parts. All numbers are little-endian.
 //!
@@ -27,6 +27,7 @@ use std::path::Path;
 
 use crate::answer::{answer, lines, PROGRAM_PLACES};
 use crate::compare::{each_image, Selection};
+use crate::format::Edition;
 use crate::import::import;
 use crate::specials::specials;
 use crate::workers::{on_long_stack, THREADS};
@@ -91,7 +92,7 @@ fn write_lines(image: &[u8], longest: usize, out: &mut dyn Write) -> io::Result<
     if image.len() > longest {
         return Ok(());
     }
-    match answer(image, PROGRAM_PLACES).map(|answer| lines(&answer)) {
+    match answer(image, Edition::One, PROGRAM_PLACES).map(|answer| lines(&answer)) {
         Ok(text) if text.len() <= longest => {
             write_counted(image, out)?;
             write_counted(text.as_bytes(), out)
@@ -106,7 +107,7 @@ fn write_counted(bytes: &[u8], out: &mut dyn Write) -> io::Result<()> {
 }
 
 fn write_record(image: &[u8], out: &mut dyn Write) -> io::Result<()> {
-    let (number, value, starts) = match import(image) {
+    let (number, value, starts) = match import(image, Edition::One) {
         Ok(imported) => (0, imported.starts.len() as u64, imported.starts),
         Err(refusal) => (refusal.number, refusal.place, Vec::new()),
     };

@@ -6,6 +6,7 @@ use std::process::{Command, Stdio};
 use std::thread;
 
 use crate::answer::PROGRAM_PLACES;
+use crate::format::Edition;
 use crate::generate::deep::{in_no_order, through_again, Chain, Link, Wrapper};
 use crate::import::import;
 use crate::library::Library;
@@ -123,7 +124,7 @@ pub fn cases() -> Vec<Case> {
 fn case(name: String, schema: &Schema, recorded: [u64; 4]) -> Case {
     Case {
         name,
-        image: schema.bytes(),
+        image: schema.bytes(Edition::One),
         recorded,
     }
 }
@@ -226,7 +227,11 @@ fn heading(what: &str, subjects: &[Subject]) {
 fn measurable(subject: Subject, ours: Option<Library>) -> bool {
     match ours {
         None => !subject.is_ours(),
-        Some(ours) => subject != Subject::Check || ours.check.is_some(),
+        Some(ours) => match subject {
+            Subject::Sizes => ours.sizes.is_some(),
+            Subject::Check => ours.check.is_some(),
+            Subject::RustSizes | Subject::RustCheck => true,
+        },
     }
 }
 
@@ -278,17 +283,20 @@ fn answer(image: &[u8], subject: Subject, ours: Option<Library>) {
     let mut findings = vec![0; PROGRAM_PLACES.findings as usize];
     let library = || ours.expect("ours is measured only if it is there");
     match subject {
-        Subject::Sizes => assert_eq!((library().sizes)(image, &mut sizes).number, 0),
+        Subject::Sizes => {
+            let size = library().sizes.expect("measured only if it is there");
+            assert_eq!(size(image, &mut sizes).number, 0);
+        }
         Subject::Check => {
             let check = library().check.expect("measured only if it is there");
             assert_eq!(check(image, &mut sizes, &mut findings).number, 0);
         }
         Subject::RustSizes => {
-            let mut imported = import(image).expect("the cases are accepted");
+            let mut imported = import(image, Edition::One).expect("the cases are accepted");
             compute_wire_sizes(&mut imported.schema);
         }
         Subject::RustCheck => {
-            let mut imported = import(image).expect("the cases are accepted");
+            let mut imported = import(image, Edition::One).expect("the cases are accepted");
             check(&mut imported.schema);
         }
     }

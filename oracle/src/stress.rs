@@ -9,6 +9,7 @@ use std::process::{Command, Stdio};
 
 use crate::answer::{lines, Whole, PATIENT_STEP_LIMIT, PROGRAM_PLACES};
 use crate::compare::{each_image, Selection};
+use crate::format::Edition;
 use crate::program::{give, Fault, Wrong};
 use crate::stack::{self, Case, Subject};
 use crate::workers::{on_long_stack, THREADS};
@@ -95,7 +96,7 @@ impl Stress<'_> {
         if !self.seen.insert(image.to_vec()) {
             return Ok(ControlFlow::Continue(()));
         }
-        let whole = Whole::within(image, PATIENT_STEP_LIMIT);
+        let whole = Whole::within(image, Edition::One, PATIENT_STEP_LIMIT);
         let Ok(answer) = whole.answer(PROGRAM_PLACES) else {
             self.outcome.too_long += 1;
             return Ok(ControlFlow::Continue(()));

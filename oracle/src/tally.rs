@@ -2,8 +2,11 @@
 
 use std::fmt;
 
-use crate::answer::{Classes, FieldCounts, Operation, Part, PassedLimit, Unions, Whole};
-use crate::generate::FAMILIES;
+use crate::answer::{
+    AddedCounts, Classes, FieldCounts, Operation, Part, PassedLimit, Unions, Whole,
+};
+use crate::format::Edition;
+use crate::generate::{FAMILIES, FIRST_EDITION};
 
 /// The answers there are: accepted, and the refusals.
 pub const NUMBERS: [usize; 14] = [0, 1, 2, 3, 4, 5, 6, 7, 8, 9, 10, 11, 12, 14];
@@ -18,11 +21,15 @@ pub type FirstSteps = [[u64; 2]; Part::ALL.len()];
 /// Calls one in another from which on an image counts as deep.
 const DEEP: u64 = 1_000;
 
+/// Images of a run of edition two for each of which one has to be of edition one.
+const FIRST_EDITION_EACH: u64 = 50;
+
 /// Images of a run for each of which one has to be answered this number.
-fn images_each(number: usize) -> u64 {
-    match number {
+fn images_each(number: usize, edition: Edition) -> u64 {
+    match (number, edition) {
         // Images above 65,536 bytes are rare.
-        1 => 200_000,
+        (1, Edition::One) => 200_000,
+        (1, Edition::Two) => 4_000,
         _ => 20_000,
     }
 }
@@ -39,6 +46,8 @@ pub struct Tally {
     deepest: u64,
     unions: Unions,
     first_steps: FirstSteps,
+    /// What edition two adds; none in a run of edition one.
+    added: AddedCounts,
 }
 
 impl Default for Tally {
@@ -52,6 +61,7 @@ impl Default for Tally {
             deepest: 0,
             unions: [0; 3],
             first_steps: FirstSteps::default(),
+            added: AddedCounts::default(),
         }
     }
 }
@@ -75,6 +85,15 @@ impl Tally {
         let there = classes.map(|count| u64::from(count > 0));
         add_counts(&mut self.classes[family], &there);
         self.fields.add(&whole.fields);
+        self.added.add(&whole.added);
+    }
+
+    /// Counts an image of edition two if edition one accepts it as well.
+    pub fn look_across(&mut self, image: &[u8], whole: &Whole) {
+        if whole.refusal().is_none() {
+            self.added
+                .count_both(&Whole::of(image, Edition::One), whole);
+        }
     }
 
     fn count_first_step(&mut self, passed: PassedLimit) {
@@ -102,6 +121,7 @@ impl Tally {
         for (counts, more) in self.first_steps.iter_mut().zip(&other.first_steps) {
             add_counts(counts, more);
         }
+        self.added.add(&other.added);
     }
 
     /// Images with a step past the limit, by the first such step.
@@ -110,10 +130,15 @@ impl Tally {
     }
 
     /// What a run over all families has too few of, lest it show nothing:
-    /// trait fields, images by class of finding, images by refusal.
-    pub fn below_floor(&self) -> Vec<String> {
+    /// trait fields, images by class of finding, images by refusal, and what
+    /// edition two adds.
+    pub fn below_floor(&self, edition: Edition) -> Vec<String> {
         let images = self.images();
-        let floor = FieldCounts::floor(images);
+        let floor = FieldCounts::floor(match edition {
+            Edition::One => images,
+            // A part is of families that have few trait fields.
+            Edition::Two => images * 2 / 3,
+        });
         let mut held = Vec::new();
         for (what, count) in self.fields.each() {
             held.push((format!("trait fields, {what}"), count, floor));
@@ -125,11 +150,23 @@ impl Tally {
         let totals = self.totals();
         for number in NUMBERS.into_iter().filter(|&number| number != 10) {
             let what = format!("images answered {number}");
-            held.push((what, totals[number], images / images_each(number)));
+            held.push((what, totals[number], images / images_each(number, edition)));
+        }
+        if edition == Edition::Two {
+            held.extend(self.added.held(images));
+            let what = "images of edition one".into();
+            held.push((what, self.first_edition(), images / FIRST_EDITION_EACH));
         }
         let few = held.into_iter().filter(|(_, count, floor)| count < floor);
         few.map(|(what, count, floor)| format!("{what}: {count}, not {floor}"))
             .collect()
+    }
+
+    /// Images of edition one that were read in edition two.
+    fn first_edition(&self) -> u64 {
+        let rows = FAMILIES.iter().zip(&self.rows);
+        let rows = rows.filter(|(family, _)| family.name == FIRST_EDITION);
+        rows.flat_map(|(_, row)| row).sum()
     }
 
     fn class_totals(&self) -> Classes {
@@ -170,6 +207,9 @@ impl fmt::Display for Tally {
         self.write_numbers(out)?;
         self.write_classes(out)?;
         self.fields.fmt(out)?;
+        if self.added != AddedCounts::default() {
+            self.added.fmt(out)?;
+        }
         let Self { deep, deepest, .. } = self;
         writeln!(
             out,

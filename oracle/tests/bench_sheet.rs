@@ -1,14 +1,14 @@
 //! The lines of document 01's bench sheet.
 
 use oracle::answer::{answer, Answer, PROGRAM_PLACES};
-use oracle::format::SIZE_LIMIT;
+use oracle::format::{Edition, SIZE_LIMIT};
 use oracle::model::{
-    declared, field, fixed, message, pair, union, wrap, Schema, Slot, Tree, BOOL, OPTIONAL, RESULT,
-    U32, U8, VEC3,
+    declared, field, fixed, live, message, pair, union, wrap, Schema, Slot, Tree, BOOL, OPTIONAL,
+    RESULT, U32, U8, VEC3,
 };
 
 fn answered(schema: &Schema) -> Answer {
-    answer(&schema.bytes(), PROGRAM_PLACES).expect("a short check")
+    answer(&schema.bytes(Edition::One), Edition::One, PROGRAM_PLACES).expect("a short check")
 }
 
 const SUM_TOO_LARGE: Answer = Answer::Refused {
@@ -40,14 +40,14 @@ fn enum_row(non_exhaustive: u64, ordinals: &[u64]) -> [u64; 3] {
         backing: 0,
         non_exhaustive,
         bits: 77,
-        ordinals: ordinals.to_vec(),
+        ordinals: live(ordinals.to_vec()),
     })
 }
 
 fn flags_row(bits: &[u64]) -> [u64; 3] {
     row(Slot::Flags {
         bytes: 77,
-        bits: bits.to_vec(),
+        bits: live(bits.to_vec()),
     })
 }
 

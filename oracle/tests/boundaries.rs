@@ -1,17 +1,21 @@
 //! The Rust side at every boundary of the format and of sizes.
 
 use oracle::answer::{Answer, Whole, PROGRAM_PLACES};
+use oracle::format::Edition;
 use oracle::generate::bounds::boundaries;
 use oracle::generate::edges::all_edges;
 use oracle::import::import;
 
 #[test]
 fn importer_answers_each_boundary() {
-    assert!(boundaries().len() > 250);
-    for boundary in boundaries() {
-        let refused = import(&boundary.image).err();
-        let refused = refused.map(|refusal| (refusal.number, refusal.place));
-        assert_eq!(refused, boundary.refused, "{}", boundary.what);
+    assert!(boundaries(Edition::One).len() > 250);
+    assert!(boundaries(Edition::Two).len() > boundaries(Edition::One).len() + 80);
+    for edition in Edition::ALL {
+        for boundary in boundaries(edition) {
+            let refused = import(&boundary.image, edition).err();
+            let refused = refused.map(|refusal| (refusal.number, refusal.place));
+            assert_eq!(refused, boundary.refused, "{}", boundary.what);
+        }
     }
 }
 
@@ -19,11 +23,14 @@ fn importer_answers_each_boundary() {
 fn sizes_are_refused_one_bit_above_the_limit() {
     assert!(all_edges().len() > 2_500);
     for edge in all_edges() {
-        let answer = Whole::sizes_of(&edge.image).sizes_answer(PROGRAM_PLACES.sizes);
-        let refused = match answer.expect("a short check") {
-            Answer::Refused { number, place } => Some((number, place)),
-            Answer::Accepted { .. } => None,
-        };
-        assert_eq!(refused, edge.refused, "{}", edge.what);
+        for edition in Edition::ALL {
+            let image = edge.schema.bytes(edition);
+            let answer = Whole::sizes_of(&image, edition).sizes_answer(PROGRAM_PLACES.sizes);
+            let refused = match answer.expect("a short check") {
+                Answer::Refused { number, place } => Some((number, place)),
+                Answer::Accepted { .. } => None,
+            };
+            assert_eq!(refused, edge.refused, "{}", edge.what);
+        }
     }
 }

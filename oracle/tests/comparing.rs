@@ -4,6 +4,7 @@ use std::sync::atomic::{AtomicU64, Ordering};
 
 use oracle::answer::Part;
 use oracle::compare::{compare, exhaustive, smallest_difference, Outcome, Selection};
+use oracle::format::Edition;
 use oracle::generate::{family_named, Families};
 use oracle::import::import;
 use oracle::ir::TypeDef;
@@ -14,6 +15,7 @@ const SELECTION: Selection = Selection {
     count: 20_000,
     seed: 3,
     families: Families::All,
+    edition: Edition::One,
 };
 
 /// The reference without findings, which take longer.
@@ -22,12 +24,18 @@ const SIZES: Library = Library {
     ..REFERENCE
 };
 
+fn reference_sizes(image: &[u8], sizes: &mut [u64]) -> Verdict {
+    let size = REFERENCE.sizes.expect("the reference has all");
+    size(image, sizes)
+}
+
 fn run_family(name: &str, library: Library) -> Outcome {
-    let family = family_named(name).expect("a family");
+    let family = family_named(name, library.edition).expect("a family");
     let selection = Selection {
         count: 1_000,
         seed: 5,
         families: Families::One(family),
+        edition: library.edition,
     };
     compare(selection, library)
 }
@@ -46,7 +54,7 @@ fn reference_equals_itself() {
     assert_eq!(outcome.difference, None);
     assert_eq!(outcome.tally.images(), selection.count);
     assert!(outcome.passed());
-    assert!(outcome.tally.below_floor().is_empty());
+    assert!(outcome.tally.below_floor(Edition::One).is_empty());
     let unions = outcome.tally.unions();
     assert!(unions.iter().all(|&turns| turns > 50), "{unions:?}");
     let first_steps = outcome.tally.first_steps();
@@ -62,7 +70,9 @@ fn reference_equals_itself() {
 /// One family alone has too few of nearly everything.
 #[test]
 fn floor_is_told() {
-    let few = run_family("traits", REFERENCE).tally.below_floor();
+    let few = run_family("traits", REFERENCE)
+        .tally
+        .below_floor(Edition::One);
     let told = "trait fields, found, Mat4, whole: 0, not 4";
     assert!(few.iter().any(|few| few == told), "{few:?}");
 }
@@ -71,15 +81,15 @@ fn floor_is_told() {
 fn difference_is_found_and_shrunk() {
     // Takes an array's size for 32 bits wide.
     let library = Library {
-        sizes: |image, sizes| {
-            let verdict = (REFERENCE.sizes)(image, sizes);
+        sizes: Some(|image, sizes| {
+            let verdict = reference_sizes(image, sizes);
             let wide = |run: &[u8]| run.iter().all(|&byte| byte >= 0x80);
             if verdict.number == 0 && image.windows(6).any(wide) {
                 sizes.fill(0);
                 return refused(4);
             }
             verdict
-        },
+        }),
         ..SIZES
     };
     let outcome = compare(SELECTION, library).shrunk(library);
@@ -112,14 +122,14 @@ fn untouched_start_is_seen() {
 #[test]
 fn untouched_size_is_seen_even_on_refusal() {
     let library = Library {
-        sizes: |image, sizes| {
+        sizes: Some(|image, sizes| {
             let kept = sizes.to_vec();
-            let verdict = (REFERENCE.sizes)(image, sizes);
+            let verdict = reference_sizes(image, sizes);
             if verdict.number == 10 {
                 sizes.copy_from_slice(&kept);
             }
             verdict
-        },
+        }),
         ..SIZES
     };
     let difference = run_family("valid", library).shrunk(library).difference;
@@ -132,12 +142,12 @@ fn untouched_size_is_seen_even_on_refusal() {
 #[test]
 fn write_past_the_table_is_seen() {
     let library = Library {
-        sizes: |image, sizes| {
-            let verdict = (REFERENCE.sizes)(image, sizes);
+        sizes: Some(|image, sizes| {
+            let verdict = reference_sizes(image, sizes);
             // SAFETY: the comparer keeps places past each table.
             unsafe { sizes.as_mut_ptr().add(sizes.len()).write(0) };
             verdict
-        },
+        }),
         ..SIZES
     };
     let difference = run_family("valid", library).difference;
@@ -148,13 +158,13 @@ fn write_past_the_table_is_seen() {
 #[test]
 fn families_show_wrong_sizes() {
     let no_limit: Library = Library {
-        sizes: |image, sizes| {
-            let verdict = (REFERENCE.sizes)(image, sizes);
+        sizes: Some(|image, sizes| {
+            let verdict = reference_sizes(image, sizes);
             match verdict.number {
                 11 | 14 => refused(0),
                 _ => verdict,
             }
-        },
+        }),
         ..SIZES
     };
     for family in ["limits", "edges", "turns"] {
@@ -164,10 +174,10 @@ fn families_show_wrong_sizes() {
         );
     }
     let long_stack_only: Library = Library {
-        sizes: |image, sizes| match image.len() > 20_000 {
+        sizes: Some(|image, sizes| match image.len() > 20_000 {
             true => refused(1),
-            false => (REFERENCE.sizes)(image, sizes),
-        },
+            false => reference_sizes(image, sizes),
+        }),
         ..SIZES
     };
     assert!(run_family("deep", long_stack_only).difference.is_some());
@@ -177,14 +187,14 @@ fn families_show_wrong_sizes() {
 #[test]
 fn families_show_wrong_numbers() {
     let all_sums: Library = Library {
-        sizes: |image, sizes| {
-            let verdict = (REFERENCE.sizes)(image, sizes);
+        sizes: Some(|image, sizes| {
+            let verdict = reference_sizes(image, sizes);
             let number = match verdict.number {
                 14 => 11,
                 number => number,
             };
             Verdict { number, ..verdict }
-        },
+        }),
         ..SIZES
     };
     for family in ["limits", "edges"] {
@@ -196,7 +206,7 @@ fn families_show_wrong_numbers() {
 
 /// How many variants a slot has, if it is a declared union.
 fn variants_of(image: &[u8], slot: u64) -> Option<usize> {
-    let schema = import(image).ok()?.schema;
+    let schema = import(image, Edition::One).ok()?.schema;
     let mut declared = schema.declarations.iter();
     let id = declared.find(|id| u64::from(id.index()) == slot)?;
     match schema.registry.get(*id)? {
@@ -207,7 +217,7 @@ fn variants_of(image: &[u8], slot: u64) -> Option<usize> {
 
 /// The reference, but for unions of so many variants, which have this row.
 fn unions_as(variants: usize, row: [u64; 3], image: &[u8], sizes: &mut [u64]) -> Verdict {
-    let verdict = (REFERENCE.sizes)(image, sizes);
+    let verdict = reference_sizes(image, sizes);
     for (slot, place) in sizes.chunks_exact_mut(3).enumerate() {
         if verdict.number == 0 && variants_of(image, slot as u64) == Some(variants) {
             place.copy_from_slice(&row);
@@ -220,7 +230,7 @@ fn unions_as(variants: usize, row: [u64; 3], image: &[u8], sizes: &mut [u64]) ->
 #[test]
 fn families_show_wrong_unions() {
     let empty_to_nine = Library {
-        sizes: |image, sizes| unions_as(0, [2, 8, 9], image, sizes),
+        sizes: Some(|image, sizes| unions_as(0, [2, 8, 9], image, sizes)),
         ..SIZES
     };
     assert!(run_family("valid", empty_to_nine).difference.is_some());
@@ -229,19 +239,19 @@ fn families_show_wrong_unions() {
     assert_eq!(difference.expect("a difference").image, smallest);
 
     let one_as_none = Library {
-        sizes: |image, sizes| unions_as(1, [2, 8, 8], image, sizes),
+        sizes: Some(|image, sizes| unions_as(1, [2, 8, 8], image, sizes)),
         ..SIZES
     };
     assert!(run_family("valid", one_as_none).difference.is_some());
 
     let no_variant_tested = Library {
-        sizes: |image, sizes| {
-            let verdict = (REFERENCE.sizes)(image, sizes);
+        sizes: Some(|image, sizes| {
+            let verdict = reference_sizes(image, sizes);
             match verdict.number {
                 11 | 14 if variants_of(image, verdict.value).is_some() => refused(0),
                 _ => verdict,
             }
-        },
+        }),
         ..SIZES
     };
     assert!(run_family("edges", no_variant_tested).difference.is_some());
@@ -292,10 +302,10 @@ fn errs_once(count: &AtomicU64, call: u64, sizes: &mut [u64], verdict: Verdict) 
 fn one_wrong_call_is_told() {
     static CALLS: AtomicU64 = AtomicU64::new(0);
     let library = Library {
-        sizes: |image, sizes| {
-            let verdict = (REFERENCE.sizes)(image, sizes);
+        sizes: Some(|image, sizes| {
+            let verdict = reference_sizes(image, sizes);
             errs_once(&CALLS, 5_000, sizes, verdict)
-        },
+        }),
         ..SIZES
     };
     let outcome = compare(SELECTION, library).shrunk(library);
@@ -315,10 +325,10 @@ fn one_wrong_call_is_told() {
 fn one_wrong_call_is_told_of_all_short_images() {
     static CALLS: AtomicU64 = AtomicU64::new(0);
     let library = Library {
-        sizes: |image, sizes| {
-            let verdict = (REFERENCE.sizes)(image, sizes);
+        sizes: Some(|image, sizes| {
+            let verdict = reference_sizes(image, sizes);
             errs_once(&CALLS, 100_000, sizes, verdict)
-        },
+        }),
         ..SIZES
     };
     let outcome = exhaustive(2, library).shrunk(library);
@@ -332,10 +342,10 @@ fn one_wrong_call_is_told_of_all_short_images() {
 fn shrinking_begins_at_what_was_seen() {
     static CALLS: AtomicU64 = AtomicU64::new(0);
     let library = Library {
-        sizes: |image, sizes| {
-            let verdict = (REFERENCE.sizes)(image, sizes);
+        sizes: Some(|image, sizes| {
+            let verdict = reference_sizes(image, sizes);
             errs_once(&CALLS, 0, sizes, verdict)
-        },
+        }),
         ..SIZES
     };
     let image = [0, 1, 4, 0, 0, 1, 0];
@@ -348,13 +358,13 @@ fn shrinking_begins_at_what_was_seen() {
 #[test]
 fn first_image_that_differs_is_the_same_each_time() {
     let library = Library {
-        sizes: |image, sizes| {
-            let verdict = (REFERENCE.sizes)(image, sizes);
+        sizes: Some(|image, sizes| {
+            let verdict = reference_sizes(image, sizes);
             match verdict.number == 0 && image.len() % 50 == 49 {
                 true => refused(99),
                 false => verdict,
             }
-        },
+        }),
         ..SIZES
     };
     let runs: Vec<Outcome> = (0..4).map(|_| compare(SELECTION, library)).collect();

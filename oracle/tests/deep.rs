@@ -1,8 +1,8 @@
 //! Deep chains and the images that are timed are what they are said to be.
 
-use oracle::answer::{Answer, Whole, PROGRAM_PLACES};
-use oracle::bench::cases::cases;
-use oracle::format::IMAGE_LIMIT;
+use oracle::answer::{Answer, Whole, PATIENT_STEP_LIMIT, PROGRAM_PLACES};
+use oracle::bench::cases::{cases, pairs, Case, Pair};
+use oracle::format::{Edition, IMAGE_LIMIT};
 use oracle::generate::deep::{in_no_order, through_again, Chain, Link, Wrapper};
 use oracle::workers::on_long_stack;
 
@@ -13,8 +13,8 @@ fn deepest(link: Link, wrapper: Wrapper) -> u64 {
         wrapper,
         levels: 31,
     };
-    let image = chain.below_one().bytes();
-    let whole = on_long_stack(|| Whole::of(&image));
+    let image = chain.below_one().bytes(Edition::One);
+    let whole = on_long_stack(|| Whole::of(&image, Edition::One));
     let answer = whole.answer(PROGRAM_PLACES).expect("a short check");
     assert!(matches!(answer, Answer::Accepted { .. }), "{answer:?}");
     whole.deepest
@@ -39,8 +39,8 @@ fn chains_go_through_all_slots_and_levels() {
 #[test]
 fn newtypes_are_gone_through_again() {
     for messages in 1..=4 {
-        let image = through_again(messages).bytes();
-        let whole = on_long_stack(|| Whole::of(&image));
+        let image = through_again(messages).bytes(Edition::One);
+        let whole = on_long_stack(|| Whole::of(&image, Edition::One));
         assert_eq!(whole.finding_places(), Some(0));
         assert!(whole.deepest > messages * (512 - messages) * 32 - 32);
     }
@@ -48,7 +48,7 @@ fn newtypes_are_gone_through_again() {
 
 #[test]
 fn messages_in_no_order_are_all_gone_through() {
-    let whole = on_long_stack(|| Whole::of(&in_no_order().bytes()));
+    let whole = on_long_stack(|| Whole::of(&in_no_order().bytes(Edition::One), Edition::One));
     assert_eq!(whole.finding_places(), Some(0));
     assert!(whole.deepest >= 2 * 511, "{}", whole.deepest);
 }
@@ -57,17 +57,37 @@ fn messages_in_no_order_are_all_gone_through() {
 fn typical_schema_is_sound() {
     let cases = cases();
     let typical = cases.iter().find(|case| case.name == "typical, 40 slots");
-    let whole = Whole::of(&typical.expect("a case").image);
+    let whole = Whole::of(&typical.expect("a case").image, Edition::One);
     assert_eq!(whole.starts.len(), 40);
     assert_eq!(whole.finding_places(), Some(0));
 }
 
 #[test]
 fn full_cases_are_full() {
+    let is_full = |name: &str, bytes: usize, shortest: usize| {
+        let full = bytes <= IMAGE_LIMIT && bytes + shortest > IMAGE_LIMIT;
+        assert!(full || !name.starts_with("full"), "{name}: {bytes}");
+    };
     for case in cases() {
-        if case.name.starts_with("full") {
-            let bytes = case.image.len();
-            assert!(bytes <= IMAGE_LIMIT && bytes + 4 > IMAGE_LIMIT, "{bytes}");
-        }
+        is_full(case.name, case.image.len(), 4);
+    }
+    for pair in pairs() {
+        is_full(pair.name, pair.images[1].len(), 5);
+    }
+}
+
+/// Edition two is timed on the schemas that edition one is timed on.
+#[test]
+fn pairs_are_answered_alike() {
+    let names = |(case, pair): (Case, Pair)| assert_eq!(case.name, pair.name);
+    cases().into_iter().zip(pairs()).for_each(names);
+    assert_eq!(cases().len(), pairs().len());
+    for Pair { name, images } in pairs() {
+        let [one, two] = &images;
+        let answers = [(one, Edition::One), (two, Edition::Two)].map(|(image, edition)| {
+            Whole::within(image, edition, PATIENT_STEP_LIMIT).answer(PROGRAM_PLACES)
+        });
+        assert!(answers[0].is_ok(), "{name}");
+        assert_eq!(answers[0], answers[1], "{name}");
     }
 }

@@ -13,6 +13,11 @@ static const uint64_t loop_sizes[] = {VEXIL_SIZE_ENUM, 3, 0, VEXIL_SIZE_OPEN, 3,
 static const uint32_t loop_findings[] = {VEXIL_FINDING_ENDLESS, 1, 5, 9, 0, 0};
 static const size_t loop_starts[] = {3, 9, 22};
 
+/* The same in edition two, where the enum has the retired ordinals 9 and 4, and the message's fields the limits 7 and 300. */
+static const uint8_t loop_two[] = {1, 0, 3, 2, 0, 0, 0, 1, 4, 2, 9, 4, 1, 5, 9, 0,
+                                   2, 0, 0, 3, 1, 7, 0, 0, 3, 0, 0xac, 2, 0, 2, 0, 1};
+static const size_t loop_two_starts[] = {3, 12, 28};
+
 /* A number at byte 1 that is not in its shortest form. */
 static const uint8_t long_form[] = {1, 0x80, 0, 0, 0};
 
@@ -57,10 +62,10 @@ static void expect_findings(const char *call, size_t length, size_t used)
         expect(call, "finding", i, findings[i], due(loop_findings[i < 6 ? i : 0], i, used, length));
 }
 
-static void expect_starts(const char *call, size_t length, size_t used)
+static void expect_starts(const char *call, const size_t *rows, size_t length, size_t used)
 {
     for (size_t i = 0; i < STARTS + GUARD; i++)
-        expect(call, "start", i, starts[i], due(loop_starts[i < 3 ? i : 0], i, used, length));
+        expect(call, "start", i, starts[i], due(rows[i < 3 ? i : 0], i, used, length));
 }
 
 static void expect_answer(const char *call, struct vexil_answer answer, uint64_t number, uint64_t value)
@@ -70,14 +75,25 @@ static void expect_answer(const char *call, struct vexil_answer answer, uint64_t
     calls++;
 }
 
+/* What an edition has: both checks are called alike, and so are both readers. */
+struct edition {
+    struct vexil_answer (*check)(const uint8_t *, size_t, uint64_t *, size_t, uint32_t *, size_t);
+    struct vexil_answer (*read)(const uint8_t *, size_t, size_t *, size_t);
+    const size_t *starts;
+};
+
+static const struct edition one = {vexil_check, vexil_read, loop_starts};
+static const struct edition two = {vexil_check_two, vexil_read_two, loop_two_starts};
+
 /* Each tries one call. A table of length 0 is lent as a null pointer. */
-static void check(const char *call, const uint8_t *image, size_t length, size_t s, size_t f, uint64_t number, uint64_t value)
+static void check(const char *call, const struct edition *edition, const uint8_t *image, size_t length, size_t s, size_t f,
+                  uint64_t number, uint64_t value)
 {
     mark();
-    expect_answer(call, vexil_check(image, length, s ? sizes : NULL, s, f ? findings : NULL, f), number, value);
+    expect_answer(call, edition->check(image, length, s ? sizes : NULL, s, f ? findings : NULL, f), number, value);
     expect_sizes(call, s, number ? 0 : 9);
     expect_findings(call, f, number ? 0 : 6);
-    expect_starts(call, 0, 0);
+    expect_starts(call, loop_starts, 0, 0);
 }
 
 static void size(const char *call, const uint8_t *image, size_t length, size_t s, uint64_t number, uint64_t value)
@@ -86,16 +102,17 @@ static void size(const char *call, const uint8_t *image, size_t length, size_t s
     expect_answer(call, vexil_sizes(image, length, s ? sizes : NULL, s), number, value);
     expect_sizes(call, s, number ? 0 : 9);
     expect_findings(call, 0, 0);
-    expect_starts(call, 0, 0);
+    expect_starts(call, loop_starts, 0, 0);
 }
 
-static void read(const char *call, const uint8_t *image, size_t length, size_t s, uint64_t number, uint64_t value)
+static void read(const char *call, const struct edition *edition, const uint8_t *image, size_t length, size_t s,
+                 uint64_t number, uint64_t value)
 {
     mark();
-    expect_answer(call, vexil_read(image, length, s ? starts : NULL, s), number, value);
+    expect_answer(call, edition->read(image, length, s ? starts : NULL, s), number, value);
     expect_sizes(call, 0, 0);
     expect_findings(call, 0, 0);
-    expect_starts(call, s, number ? 0 : s < 3 ? s : 3);
+    expect_starts(call, edition->starts, s, number ? 0 : s < 3 ? s : 3);
 }
 
 int main(void)
@@ -103,16 +120,16 @@ int main(void)
     /* so that what was seen stands there even if a call ends the program */
     setvbuf(stdout, NULL, _IOLBF, 0);
 
-    check("check", loop, sizeof loop, SIZES, FINDINGS, VEXIL_ACCEPTED, 1);
-    check("check, exact tables", loop, sizeof loop, 9, 6, VEXIL_ACCEPTED, 1);
-    check("check, a byte less", loop, sizeof loop - 1, SIZES, FINDINGS, VEXIL_REFUSED_CUT, 25);
-    check("check, another image", long_form, sizeof long_form, SIZES, FINDINGS, VEXIL_REFUSED_FORM, 1);
-    check("check, short sizes", loop, sizeof loop, 8, FINDINGS, VEXIL_REFUSED_SIZES, 0);
-    check("check, short findings", loop, sizeof loop, SIZES, 5, VEXIL_REFUSED_FINDINGS, 0);
-    check("check, null image", NULL, 0, SIZES, FINDINGS, VEXIL_REFUSED_CUT, 0);
-    check("check, null sizes", loop, sizeof loop, 0, FINDINGS, VEXIL_REFUSED_SIZES, 0);
-    check("check, null findings", loop, sizeof loop, SIZES, 0, VEXIL_REFUSED_FINDINGS, 0);
-    check("check, all null", NULL, 0, 0, 0, VEXIL_REFUSED_CUT, 0);
+    check("check", &one, loop, sizeof loop, SIZES, FINDINGS, VEXIL_ACCEPTED, 1);
+    check("check, exact tables", &one, loop, sizeof loop, 9, 6, VEXIL_ACCEPTED, 1);
+    check("check, a byte less", &one, loop, sizeof loop - 1, SIZES, FINDINGS, VEXIL_REFUSED_CUT, 25);
+    check("check, another image", &one, long_form, sizeof long_form, SIZES, FINDINGS, VEXIL_REFUSED_FORM, 1);
+    check("check, short sizes", &one, loop, sizeof loop, 8, FINDINGS, VEXIL_REFUSED_SIZES, 0);
+    check("check, short findings", &one, loop, sizeof loop, SIZES, 5, VEXIL_REFUSED_FINDINGS, 0);
+    check("check, null image", &one, NULL, 0, SIZES, FINDINGS, VEXIL_REFUSED_CUT, 0);
+    check("check, null sizes", &one, loop, sizeof loop, 0, FINDINGS, VEXIL_REFUSED_SIZES, 0);
+    check("check, null findings", &one, loop, sizeof loop, SIZES, 0, VEXIL_REFUSED_FINDINGS, 0);
+    check("check, all null", &one, NULL, 0, 0, 0, VEXIL_REFUSED_CUT, 0);
 
     size("sizes", loop, sizeof loop, SIZES, VEXIL_ACCEPTED, 0);
     size("sizes, a byte less", loop, sizeof loop - 1, SIZES, VEXIL_REFUSED_CUT, 25);
@@ -122,13 +139,38 @@ int main(void)
     size("sizes, null sizes", loop, sizeof loop, 0, VEXIL_REFUSED_SIZES, 0);
     size("sizes, all null", NULL, 0, 0, VEXIL_REFUSED_CUT, 0);
 
-    read("read", loop, sizeof loop, STARTS, VEXIL_ACCEPTED, 3);
-    read("read, short starts", loop, sizeof loop, 2, VEXIL_ACCEPTED, 3);
-    read("read, a byte less", loop, sizeof loop - 1, STARTS, VEXIL_REFUSED_CUT, 25);
-    read("read, another image", long_form, sizeof long_form, STARTS, VEXIL_REFUSED_FORM, 1);
-    read("read, null image", NULL, 0, STARTS, VEXIL_REFUSED_CUT, 0);
-    read("read, null starts", loop, sizeof loop, 0, VEXIL_ACCEPTED, 3);
-    read("read, all null", NULL, 0, 0, VEXIL_REFUSED_CUT, 0);
+    read("read", &one, loop, sizeof loop, STARTS, VEXIL_ACCEPTED, 3);
+    read("read, short starts", &one, loop, sizeof loop, 2, VEXIL_ACCEPTED, 3);
+    read("read, a byte less", &one, loop, sizeof loop - 1, STARTS, VEXIL_REFUSED_CUT, 25);
+    read("read, another image", &one, long_form, sizeof long_form, STARTS, VEXIL_REFUSED_FORM, 1);
+    read("read, null image", &one, NULL, 0, STARTS, VEXIL_REFUSED_CUT, 0);
+    read("read, null starts", &one, loop, sizeof loop, 0, VEXIL_ACCEPTED, 3);
+    read("read, all null", &one, NULL, 0, 0, VEXIL_REFUSED_CUT, 0);
+
+    check("check two", &two, loop_two, sizeof loop_two, SIZES, FINDINGS, VEXIL_ACCEPTED, 1);
+    check("check two, exact tables", &two, loop_two, sizeof loop_two, 9, 6, VEXIL_ACCEPTED, 1);
+    check("check two, a byte less", &two, loop_two, sizeof loop_two - 1, SIZES, FINDINGS, VEXIL_REFUSED_CUT, 31);
+    check("check two, another image", &two, long_form, sizeof long_form, SIZES, FINDINGS, VEXIL_REFUSED_FORM, 1);
+    check("check two, short sizes", &two, loop_two, sizeof loop_two, 8, FINDINGS, VEXIL_REFUSED_SIZES, 0);
+    check("check two, short findings", &two, loop_two, sizeof loop_two, SIZES, 5, VEXIL_REFUSED_FINDINGS, 0);
+    check("check two, null image", &two, NULL, 0, SIZES, FINDINGS, VEXIL_REFUSED_CUT, 0);
+    check("check two, null sizes", &two, loop_two, sizeof loop_two, 0, FINDINGS, VEXIL_REFUSED_SIZES, 0);
+    check("check two, null findings", &two, loop_two, sizeof loop_two, SIZES, 0, VEXIL_REFUSED_FINDINGS, 0);
+    check("check two, all null", &two, NULL, 0, 0, 0, VEXIL_REFUSED_CUT, 0);
+
+    read("read two", &two, loop_two, sizeof loop_two, STARTS, VEXIL_ACCEPTED, 3);
+    read("read two, short starts", &two, loop_two, sizeof loop_two, 2, VEXIL_ACCEPTED, 3);
+    read("read two, a byte less", &two, loop_two, sizeof loop_two - 1, STARTS, VEXIL_REFUSED_CUT, 31);
+    read("read two, another image", &two, long_form, sizeof long_form, STARTS, VEXIL_REFUSED_FORM, 1);
+    read("read two, null image", &two, NULL, 0, STARTS, VEXIL_REFUSED_CUT, 0);
+    read("read two, null starts", &two, loop_two, sizeof loop_two, 0, VEXIL_ACCEPTED, 3);
+    read("read two, all null", &two, NULL, 0, 0, VEXIL_REFUSED_CUT, 0);
+
+    /* the image of one edition in the other: a backing of 9, and no third slot */
+    check("check, edition two", &one, loop_two, sizeof loop_two, SIZES, FINDINGS, VEXIL_REFUSED_RANGE, 10);
+    read("read, edition two", &one, loop_two, sizeof loop_two, STARTS, VEXIL_REFUSED_RANGE, 10);
+    check("check two, edition one", &two, loop, sizeof loop, SIZES, FINDINGS, VEXIL_REFUSED_CUT, 26);
+    read("read two, edition one", &two, loop, sizeof loop, STARTS, VEXIL_REFUSED_CUT, 26);
 
     printf("exports: %d calls, %d differences\n", calls, wrong);
     return wrong != 0;

@@ -2,12 +2,13 @@
 
 use oracle::answer::{answer, Answer, PROGRAM_PLACES};
 use oracle::bench::cases::wide_report;
+use oracle::format::Edition;
 use oracle::model::{
     declared, field, generic, message, wrap, Impl, Schema, Slot, Tree, OPTIONAL, U32, U8,
 };
 
 fn findings(schema: &Schema) -> Vec<u32> {
-    match answer(&schema.bytes(), PROGRAM_PLACES) {
+    match answer(&schema.bytes(Edition::One), Edition::One, PROGRAM_PLACES) {
         Ok(Answer::Accepted { findings, .. }) => findings,
         other => panic!("{other:?}"),
     }

@@ -6,6 +6,7 @@ mod wrong_sizes;
 use std::sync::OnceLock;
 
 use oracle::answer::{Answer, Whole};
+use oracle::format::Edition;
 use oracle::import::import;
 use oracle::lengths::clauses::{Clause, Facts, Proviso, Tally, Truth, Violation};
 use oracle::lengths::rules::lengths_of_slots;
@@ -13,8 +14,8 @@ use oracle::lengths::set::{Lengths, HORIZON};
 use oracle::lengths::{run, schema, subjects, Broken, Subject, Table};
 use oracle::library::{Library, Sizer, Verdict, REFERENCE};
 use oracle::model::{
-    declared, field, fixed, message, pair, union, wrap, Encoding, Field, Schema, Slot, Stored,
-    Tree, ARRAY, BOOL, MAP, MAT4, OPTIONAL, RESULT, SET, U32, U8, VEC2, VEC3, VOID,
+    declared, field, fixed, live, message, pair, union, wrap, Encoding, Field, Schema, Slot,
+    Stored, Tree, ARRAY, BOOL, MAP, MAT4, OPTIONAL, RESULT, SET, U32, U8, VEC2, VEC3, VOID,
 };
 use wrong_sizes::{table, Wrong, NOT_ASKED};
 
@@ -24,7 +25,7 @@ const SEED: u64 = 1;
 const ITSELF: Tree = Tree::Named(0);
 
 fn all(schema: &Schema) -> Vec<Lengths> {
-    let imported = import(&schema.bytes()).expect("an accepted image");
+    let imported = import(&schema.bytes(Edition::One), Edition::One).expect("an accepted image");
     lengths_of_slots(&imported.schema)
 }
 
@@ -170,11 +171,11 @@ fn names() {
         backing: 0,
         non_exhaustive: 0,
         bits: 30,
-        ordinals: vec![5, 2],
+        ordinals: live(vec![5, 2]),
     };
     let flags = Slot::Flags {
         bytes: 7,
-        bits: vec![9],
+        bits: live(vec![9]),
     };
     let slots = vec![
         message(0, vec![field(0, Tree::Named(1))]),
@@ -258,9 +259,10 @@ fn prepared() -> &'static [(Schema, Facts, Vec<u64>)] {
     ALL.get_or_init(|| {
         let one = |number| {
             let schema = schema(SEED, number);
-            let image = schema.bytes();
-            let imported = import(&image).expect("an accepted image");
-            let answer = Whole::sizes_of(&image).sizes_answer(3 * schema.slots.len() as u64);
+            let image = schema.bytes(Edition::One);
+            let imported = import(&image, Edition::One).expect("an accepted image");
+            let answer =
+                Whole::sizes_of(&image, Edition::One).sizes_answer(3 * schema.slots.len() as u64);
             let Ok(Answer::Accepted { sizes, .. }) = answer else {
                 panic!("{answer:?}");
             };
@@ -317,7 +319,7 @@ fn each_clause_tells_one() {
     }
     // A type without lengths: its row is enclosing whatever it says.
     let schema = declared(vec![0], vec![message(0, vec![field(0, ITSELF)])]);
-    let imported = import(&schema.bytes()).expect("an accepted image");
+    let imported = import(&schema.bytes(Edition::One), Edition::One).expect("an accepted image");
     let facts = Facts::of(&imported.schema);
     let judged = facts.judge(&[2, 5, 3], &mut Tally::default());
     assert_eq!(judged.map(|one| one.clause), Some(Some(Clause::Order)));
@@ -337,7 +339,11 @@ fn provisos_are_decided() {
             slots: vec![slot, user],
             declarations: vec![1],
         };
-        Facts::of(&import(&schema.bytes()).expect("an accepted image").schema)
+        Facts::of(
+            &import(&schema.bytes(Edition::One), Edition::One)
+                .expect("an accepted image")
+                .schema,
+        )
     };
     let sizes = [
         (Stored::Bounded(1, 9), Truth::Yes, true),
@@ -369,7 +375,12 @@ fn leading_back_follows_parts() {
             ..field(0, tree)
         };
         let schema = declared(vec![0], vec![message(0, vec![field])]);
-        Facts::of(&import(&schema.bytes()).expect("an accepted image").schema).back[0]
+        Facts::of(
+            &import(&schema.bytes(Edition::One), Edition::One)
+                .expect("an accepted image")
+                .schema,
+        )
+        .back[0]
     };
     for tree in [
         ITSELF,
@@ -395,13 +406,25 @@ fn leading_back_follows_parts() {
         message(1, vec![field(0, wrap(OPTIONAL, Tree::Named(1)))]),
     ];
     let schema = declared(vec![0], slots);
-    let facts = Facts::of(&import(&schema.bytes()).expect("an accepted image").schema);
+    let facts = Facts::of(
+        &import(&schema.bytes(Edition::One), Edition::One)
+            .expect("an accepted image")
+            .schema,
+    );
     assert_eq!(facts.back, [true, true]);
+}
+
+fn reference(image: &[u8], sizes: &mut [u64]) -> Verdict {
+    let size = REFERENCE.sizes.expect("the reference has all");
+    size(image, sizes)
 }
 
 /// The first broken row of a library, in the smallest image found.
 fn broken_by(sizes: Sizer) -> Broken {
-    let library = Library { sizes, ..REFERENCE };
+    let library = Library {
+        sizes: Some(sizes),
+        ..REFERENCE
+    };
     let subject = Subject {
         name: "wrong",
         table: Table::Sizes(library),
@@ -412,7 +435,7 @@ fn broken_by(sizes: Sizer) -> Broken {
 #[test]
 fn a_wrong_library_is_told_by_a_small_image() {
     let broken = broken_by(|image, sizes| {
-        let verdict = (REFERENCE.sizes)(image, sizes);
+        let verdict = reference(image, sizes);
         let rows = sizes.chunks_mut(3).filter(|row| row[0] == 2);
         rows.for_each(|row| row[2] = row[2].saturating_sub(1));
         verdict

@@ -1,12 +1,13 @@
 //! The lowest slot on a loop, against following all ways from each slot.
 
+use oracle::format::Edition;
 use oracle::generate::loops::{alias_ring, aliases, newtype_order, newtype_ring, newtypes};
 use oracle::import::import;
 use oracle::model::{Schema, Slot, Tree, MAP, RESULT};
 use oracle::random::Random;
 
 fn refused(schema: &Schema) -> Option<(u64, u64)> {
-    let refusal = import(&schema.bytes()).err()?;
+    let refusal = import(&schema.bytes(Edition::One), Edition::One).err()?;
     Some((refusal.number, refusal.place))
 }
 

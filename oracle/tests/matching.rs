@@ -7,6 +7,7 @@ use std::ops::ControlFlow;
 use oracle::answer::{each_wanted, type_kind, type_parts, Wanted, Whole};
 use oracle::ast::TypeExpr;
 use oracle::compare::{compare, each_image, Selection};
+use oracle::format::Edition;
 use oracle::generate::Families;
 use oracle::import::import;
 use oracle::ir::{CompiledSchema, GenericAliasDef, ResolvedType, TraitDef, TypeDef};
@@ -19,6 +20,7 @@ const SELECTION: Selection = Selection {
     count: 4_000,
     seed: 11,
     families: Families::All,
+    edition: Edition::One,
 };
 
 /// A wrong rule for types that are held against each other. Numbers are kinds.
@@ -135,8 +137,12 @@ fn lacking(schema: &CompiledSchema, found: &dyn Fn(&Wanted) -> bool) -> Vec<[u32
 /// Calls `visit` with the schemas of the selection whose findings are known.
 fn each_schema(visit: &mut (dyn FnMut(&CompiledSchema) + Send)) {
     let mut one = |_, image: &[u8]| {
-        if Whole::of(image).finding_places().is_some() {
-            visit(&import(image).expect("an accepted image").schema);
+        if Whole::of(image, Edition::One).finding_places().is_some() {
+            visit(
+                &import(image, Edition::One)
+                    .expect("an accepted image")
+                    .schema,
+            );
         }
         ControlFlow::Continue(())
     };
@@ -169,6 +175,7 @@ fn recorded_images() -> Vec<Vec<u8>> {
         count: 1_500,
         seed: 7,
         families: Families::All,
+        edition: Edition::One,
     };
     let mut file = Vec::new();
     record_lines(selection, &mut file).expect("a Vec takes all");
@@ -186,7 +193,7 @@ fn recorded_images() -> Vec<Vec<u8>> {
 fn every_wrong_comparison_shows_in_recorded_texts() {
     let mut shown: Vec<(Wrong, usize)> = all_wrong().into_iter().map(|rule| (rule, 0)).collect();
     for image in recorded_images() {
-        let Ok(imported) = import(&image) else {
+        let Ok(imported) = import(&image, Edition::One) else {
             continue;
         };
         let right = lacking(&imported.schema, &|wanted| wanted.found());
@@ -327,7 +334,9 @@ fn every_misread_expression_shows() {
 
 /// The findings of a check that never finds a trait field of one kind.
 fn blind_findings(image: &[u8], kind: usize, right: &[u32]) -> Vec<u32> {
-    let schema = import(image).expect("an accepted image").schema;
+    let schema = import(image, Edition::One)
+        .expect("an accepted image")
+        .schema;
     let rows = right.chunks(6).map(<[u32; 6]>::try_from);
     let rows = rows.map(|row| row.expect("six numbers a finding"));
     let mut rows: Vec<[u32; 6]> = rows.filter(|row| row[0] != 4).collect();

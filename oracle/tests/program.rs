@@ -6,6 +6,7 @@ use std::sync::atomic::{AtomicU64, Ordering};
 
 use oracle::answer::{answer, lines, PROGRAM_PLACES};
 use oracle::compare::Selection;
+use oracle::format::Edition;
 use oracle::generate::findings::many_findings;
 use oracle::generate::{family_named, Families};
 use oracle::program::{run, Fault};
@@ -17,6 +18,7 @@ const SELECTION: Selection = Selection {
     count: 200,
     seed: 2,
     families: Families::All,
+    edition: Edition::One,
 };
 
 fn oracle(command: &str) -> Command {
@@ -82,7 +84,8 @@ fn a_signal_is_known_or_a_failure() {
     let deep = Selection {
         count: 2,
         seed: 5,
-        families: Families::One(family_named("deep").expect("a family")),
+        families: Families::One(family_named("deep", Edition::One).expect("a family")),
+        edition: Edition::One,
     };
     let answers = format!("exec {} answer", env!("CARGO_BIN_EXE_oracle"));
 
@@ -114,8 +117,8 @@ fn a_signal_is_known_or_a_failure() {
 fn findings_are_as_many_as_said() {
     for kind in 0..3 {
         let text = |findings| {
-            let image = many_findings(findings, kind).bytes();
-            lines(&answer(&image, PROGRAM_PLACES).expect("a short check"))
+            let image = many_findings(findings, kind).bytes(Edition::One);
+            lines(&answer(&image, Edition::One, PROGRAM_PLACES).expect("a short check"))
         };
         assert!(text(1_000).ends_with("\nend 1000\n"), "kind {kind}");
         assert_eq!(text(1_001), "vexil-typeck 1\nrefused 12 0\n");
@@ -137,7 +140,7 @@ fn records_hold_images_and_lines() {
     let mut images = 0;
     while let Some(image) = part() {
         let text = part().expect("lines after each image");
-        let expected = lines(&answer(&image, PROGRAM_PLACES).expect("a short check"));
+        let expected = lines(&answer(&image, Edition::One, PROGRAM_PLACES).expect("a short check"));
         assert_eq!(String::from_utf8(text), Ok(expected));
         images += 1;
     }

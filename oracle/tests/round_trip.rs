@@ -3,6 +3,7 @@
 use oracle::answer::{answer, lines, PROGRAM_PLACES};
 use oracle::example::bond_report;
 use oracle::export::{export, Unfit};
+use oracle::format::Edition;
 use oracle::generate::{batch, Families};
 use oracle::import::import;
 use oracle::ir::{CompiledSchema, ResolvedType, TypeDef, WireSize};
@@ -11,10 +12,10 @@ use oracle::workers::on_long_stack;
 
 #[test]
 fn bond_report_comes_back() {
-    let image = export(&bond_report()).expect("it fits");
-    let imported = import(&image).expect("accepted");
-    assert_eq!(export(&imported.schema).as_ref(), Ok(&image));
-    let output = lines(&answer(&image, PROGRAM_PLACES).expect("a short check"));
+    let image = export(&bond_report(), Edition::One).expect("it fits");
+    let imported = import(&image, Edition::One).expect("accepted");
+    assert_eq!(export(&imported.schema, Edition::One).as_ref(), Ok(&image));
+    let output = lines(&answer(&image, Edition::One, PROGRAM_PLACES).expect("a short check"));
     let expected = "vexil-typeck 1\nsize 0 4 3 0\nsize 1 2 8 33\nsize 2 2 67 124\nend 0\n";
     assert_eq!(output, expected);
 }
@@ -23,7 +24,11 @@ fn bond_report_comes_back() {
 fn checked_bond_report_brings_its_sizes() {
     let mut schema = bond_report();
     assert!(check(&mut schema).is_empty());
-    let imported = import(&export(&schema).expect("it fits")).expect("accepted");
+    let imported = import(
+        &export(&schema, Edition::One).expect("it fits"),
+        Edition::One,
+    )
+    .expect("accepted");
     let size = imported
         .schema
         .registry
@@ -48,12 +53,13 @@ fn accepted_images_come_back() {
 
 fn images_come_back() {
     for number in 0..4_000 {
-        batch(21, number, Families::All, |_, image| {
-            if let Ok(imported) = import(image) {
-                let once = export(&imported.schema).expect("what was read fits");
-                let again = import(&once).expect("accepted again");
-                assert_eq!(export(&again.schema).as_ref(), Ok(&once));
-                let answers = [image, &once].map(|image| answer(image, PROGRAM_PLACES));
+        batch(21, number, Families::All, Edition::One, |_, image| {
+            if let Ok(imported) = import(image, Edition::One) {
+                let once = export(&imported.schema, Edition::One).expect("what was read fits");
+                let again = import(&once, Edition::One).expect("accepted again");
+                assert_eq!(export(&again.schema, Edition::One).as_ref(), Ok(&once));
+                let answers =
+                    [image, &once].map(|image| answer(image, Edition::One, PROGRAM_PLACES));
                 assert_eq!(answers[0], answers[1]);
             }
         });
@@ -63,7 +69,7 @@ fn images_come_back() {
 fn edited(edit: impl Fn(&mut CompiledSchema)) -> Result<Vec<u8>, Unfit> {
     let mut schema = bond_report();
     edit(&mut schema);
-    export(&schema)
+    export(&schema, Edition::One)
 }
 
 #[test]

@@ -1,6 +1,7 @@
 //! The image of document 01 that is worked out whole, and the smallest ones.
 
 use oracle::answer::{answer, lines, Answer, PROGRAM_PLACES};
+use oracle::format::Edition;
 use oracle::import::{import, Refusal};
 
 const EXAMPLE: [u8; 26] = [
@@ -9,7 +10,7 @@ const EXAMPLE: [u8; 26] = [
 ];
 
 fn output(image: &[u8]) -> String {
-    lines(&answer(image, PROGRAM_PLACES).expect("a short check"))
+    lines(&answer(image, Edition::One, PROGRAM_PLACES).expect("a short check"))
 }
 
 #[test]
@@ -20,7 +21,7 @@ fn example_gives_its_lines() {
 
 #[test]
 fn example_has_its_slot_starts() {
-    let imported = import(&EXAMPLE).expect("accepted");
+    let imported = import(&EXAMPLE, Edition::One).expect("accepted");
     assert_eq!(imported.starts, [3, 10]);
     assert_eq!(imported.finds, [None]);
 }
@@ -35,8 +36,9 @@ fn empty_image_is_refused() {
     let refusal = Refusal {
         number: 2,
         place: 0,
+        added: None,
     };
-    assert_eq!(import(&[]).err(), Some(refusal));
+    assert_eq!(import(&[], Edition::One).err(), Some(refusal));
     assert_eq!(output(&[]), "vexil-typeck 1\nrefused 2 0\n");
 }
 
@@ -44,7 +46,7 @@ fn empty_image_is_refused() {
 fn places_are_tested_in_order() {
     let mut places = PROGRAM_PLACES;
     places.sizes = 5;
-    let refused = answer(&EXAMPLE, places).expect("a short check");
+    let refused = answer(&EXAMPLE, Edition::One, places).expect("a short check");
     let expected = Answer::Refused {
         number: 10,
         place: 0,
@@ -52,7 +54,7 @@ fn places_are_tested_in_order() {
     assert_eq!(refused, expected);
     places.sizes = 6;
     assert!(matches!(
-        answer(&EXAMPLE, places),
+        answer(&EXAMPLE, Edition::One, places),
         Ok(Answer::Accepted { count: 0, .. })
     ));
 }

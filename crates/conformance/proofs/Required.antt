@@ -37,10 +37,10 @@ use Rattle.conformance.specs.declared.TraitDef.{TraitDef}
 
 -- what names find, in a table of zeros that it was written into
 pub finds-hold : (s starts : List ℕ) (f : Frame) → Promise s starts f → (table : List ℕ)
-    → table ≡ sets (replicate 4096 0) 0 (findsAt (f .names) s (f .finds)) → FindsHold s table
+    → table ≡ sets (replicate 4096 0) 0 (findsAt (f .names) s (f .finds)) → FindsHold (schemaOf (f .edition) s) table
 finds-hold s starts f p table h =
-    let few : length (schemaOf s .finds) ≤ 4096 = omega (arith, p .fewNames, many-length (number slot 513) s (f .names) (f .finds) (schemaOf s .finds) (p .findsEnd) (p .finds)) in
-    record { entry = λ n. ap (λ (l : List ℕ). getD l n 0) (h ∙ ap (λ (fs : List ℕ). sets (replicate 4096 0) 0 fs) (finds-read (f .names) s (f .finds) (schemaOf s .finds) (p .findsEnd) (p .finds))) ∙ written-at 4096 (schemaOf s .finds) few n }
+    let few : length (schemaOf (f .edition) s .finds) ≤ 4096 = omega (arith, p .fewNames, many-length (number slot 513) s (f .names) (f .finds) (schemaOf (f .edition) s .finds) (p .findsEnd) (p .finds)) in
+    record { entry = λ n. ap (λ (l : List ℕ). getD l n 0) (h ∙ ap (λ (fs : List ℕ). sets (replicate 4096 0) 0 fs) (finds-read (f .names) s (f .finds) (schemaOf (f .edition) s .finds) (p .findsEnd) (p .finds))) ∙ written-at 4096 (schemaOf (f .edition) s .finds) few n }
 
 -- no name was looked up
 pub none-known : (names : ℕ) (s ps : List ℕ) (ts : List Tree) → Sound names s ps ts (replicate 4096 0)
@@ -75,8 +75,8 @@ module _ (s starts : List ℕ) (f : Frame) (d : ImplDef) (e : TraitDef) (slot pl
     pub leftRead : read (many (e .«field_count» - k) (traitFieldAt (f .names))) s p ≡ done left (x .paired .traitIs .fieldsEnd)
     pub added : List Finding
     pub adds : Adds k before now held n added
-    pub whole : lacking (schemaOf s) slot (x .paired .impl) (x .paired .trait .parameters) (x .message) 0 (x .paired .trait .fields)
-        ≡ added ++ lacking (schemaOf s) slot (x .paired .impl) (x .paired .trait .parameters) (x .message) k left
+    pub whole : lacking (schemaOf (f .edition) s) slot (x .paired .impl) (x .paired .trait .parameters) (x .message) 0 (x .paired .trait .fields)
+        ≡ added ++ lacking (schemaOf (f .edition) s) slot (x .paired .impl) (x .paired .trait .parameters) (x .message) k left
 
   pub at-start : (x : Targeted s starts f d e place held) (t : List ℕ) → Going x t t (replicate 4096 0) held (e .fields) 0
   at-start x t =
@@ -92,13 +92,13 @@ module _ (s starts : List ℕ) (f : Frame) (d : ImplDef) (e : TraitDef) (slot pl
       }
 
   pub at-end : (x : Targeted s starts f d e place held) (before now places : List ℕ) (n p k : ℕ) → Going x before now places n p k → e .«field_count» ≤ k
-      → Adds 65536 before now held n (lacking (schemaOf s) slot (x .paired .impl) (x .paired .trait .parameters) (x .message) 0 (x .paired .trait .fields))
+      → Adds 65536 before now held n (lacking (schemaOf (f .edition) s) slot (x .paired .impl) (x .paired .trait .parameters) (x .message) 0 (x .paired .trait .fields))
   unfolding many read lacking
   at-end x before now places n p k g h =
       let z : e .«field_count» - k ≡ 0 = omega arith in
       let q : g .left ≡ [] = sym (given (rw z at (g .leftRead)) .0) in
       adds-same 65536 (omega (arith, g .low, x .paired .traitIs .few))
-      (g .whole ∙ ap (λ (l : List TraitField). g .added ++ lacking (schemaOf s) slot (x .paired .impl) (x .paired .trait .parameters) (x .message) k l) q ∙ append-nil (g .added))
+      (g .whole ∙ ap (λ (l : List TraitField). g .added ++ lacking (schemaOf (f .edition) s) slot (x .paired .impl) (x .paired .trait .parameters) (x .message) k l) q ∙ append-nil (g .added))
       (g .adds)
 
   -- the names of an expression are looked up among the trait's parameters
@@ -138,10 +138,10 @@ module _ (s starts : List ℕ) (f : Frame) (d : ImplDef) (e : TraitDef) (slot pl
         let b = field-parts s (f .names) p (a .first) (a .middle) (omega (arith, x .paired .promise .fewNames)) (a .here) v at t in
         record { field = a .first; others = a .others; end = a .middle; nameIs = b .0; typeRead = b .1; rest = a .rest; leftIs = a .whole }
 
-    module _ (long : length places ≡ 4096) (finds : List ℕ) (hold : FindsHold s finds) (c m : ℕ) (u : Takes s place c m) where
-      fields-read : (x : Targeted s starts f d e place held) → read (many c (fieldAt (f .names))) s m ≡ done (x .message .fields) (x .end)
+    module _ (long : length places ≡ 4096) (finds : List ℕ) (hold : FindsHold (schemaOf (f .edition) s) finds) (c m : ℕ) (u : Takes s place c m) where
+      fields-read : (x : Targeted s starts f d e place held) → read (many c (fieldAt (f .edition) (f .names))) s m ≡ done (x .message .fields) (x .end)
       unfolding counted
-      fields-read x = take-on s place count 65537 (λ j. many j (fieldAt (f .names))) (x .message .fields) (x .end) c m u (omega arith) (x .reads)
+      fields-read x = take-on s place count 65537 (λ j. many j (fieldAt (f .edition) (f .names))) (x .message .fields) (x .end) c m u (omega arith) (x .reads)
 
       pub sought : (x : Targeted s starts f d e place held) → Going x before now places n p k
           → FieldSought s starts f finds places (e .«type_params») (d .«type_args») (d .«type_arg_count») m c at
@@ -158,7 +158,7 @@ module _ (s starts : List ℕ) (f : Frame) (d : ImplDef) (e : TraitDef) (slot pl
           }
 
       -- whether it is there
-      pub going-on : (found : Bool) → FoundIf (f .names) s (e .«type_params») (d .«type_args») (d .«type_arg_count») m c v at found
+      pub going-on : (found : Bool) → FoundIf f s (e .«type_params») (d .«type_args») (d .«type_arg_count») m c v at found
           → (look-ups next : ℕ) → LooksUp (f .names) s at look-ups next
           → (after : List ℕ) → PlacesHold (f .names) s (e .«type_params») (d .«type_args») (d .«type_arg_count») at places after
           → (y : Finding) → y ≡ ownFinding 4 slot d k → (table : List ℕ) (r : ℕ) → Adds 1 now table n r (cond found [] (y ∷ []))
@@ -166,7 +166,7 @@ module _ (s starts : List ℕ) (f : Frame) (d : ImplDef) (e : TraitDef) (slot pl
       unfolding sought
       going-on found w look-ups next l after hold-after y own table r add x g =
           let a = next-field x g in
-          let S = schemaOf s in
+          let S = schemaOf (f .edition) s in
           let i = x .paired .impl in
           let ps = x .paired .trait .parameters in
           let asked = sought x g in

@@ -32,16 +32,16 @@ found-is S zero h = absurd (h refl)
 found-is S (suc n) h = let e : suc n - 1 ≡ n = omega arith in ap (slotOf S) (sym e)
 
 module _ (s starts : List ℕ) (f : Frame) (slot held : ℕ) (a : SlotAsked s starts f slot held) where
-  pub missing : partAt s starts slot ≡ Part.Missing → (t : List ℕ) → Adds 65536 t t held held (slotFindings (schemaOf s) slot)
+  pub missing : partAt s starts slot ≡ Part.Missing → (t : List ℕ) → Adds 65536 t t held held (slotFindings (schemaOf (f .edition) s) slot)
   missing p t = absurd (not-missing s starts f (a .promise) slot (a .there) p)
 
   module _ (kind body : ℕ) (p : partAt s starts slot ≡ Part.At kind body) where
-    behind : Behind (f .names) s (slotOf (schemaOf s) slot) kind body
+    behind : Behind (f .edition) (f .names) s (slotOf (schemaOf (f .edition) s) slot) kind body
     behind = part-behind s starts f (a .promise) slot (a .there) kind body p
 
-    pub other-kind : (kind ≡ 9 → ⊥) → (t : List ℕ) → Adds 65536 t t held held (slotFindings (schemaOf s) slot)
+    pub other-kind : (kind ≡ 9 → ⊥) → (t : List ℕ) → Adds 65536 t t held held (slotFindings (schemaOf (f .edition) s) slot)
     unfolding slotFindings
-    other-kind k t = adds-same 65536 (omega arith) (no-impl (schemaOf s) slot (slotOf (schemaOf s) slot) (λ z. k (sym (behind .kindIs) ∙ z))) (adds-none 0 t held)
+    other-kind k t = adds-same 65536 (omega arith) (no-impl (schemaOf (f .edition) s) slot (slotOf (schemaOf (f .edition) s) slot) (λ z. k (sym (behind .kindIs) ∙ z))) (adds-none 0 t held)
 
     pub impl-part : kind ≡ 9 → partAt s starts slot ≡ Part.At 9 body
     impl-part k = p ∙ ap (λ (n : ℕ). Part.At n body) k
@@ -49,47 +49,47 @@ module _ (s starts : List ℕ) (f : Frame) (slot held : ℕ) (a : SlotAsked s st
   -- the impl
   module _ (body : ℕ) (p : partAt s starts slot ≡ Part.At 9 body) (d : ImplDef)
       (told : (x : Impl) (end : ℕ) → read (implAt (f .names)) s body ≡ done x end → ImplIs (f .names) s d x) where
-    held-impl : Made impl (implAt (f .names)) s body (slotOf (schemaOf s) slot) (behind 9 body p .end)
+    held-impl : Made impl (implAt (f .names)) s body (slotOf (schemaOf (f .edition) s) slot) (behind 9 body p .end)
     unfolding slotBodyAt
     held-impl = made-of s impl (implAt (f .names)) body _ _ (behind 9 body p .reads)
 
     impl-is : ImplIs (f .names) s d (held-impl .held)
     impl-is = told (held-impl .held) (behind 9 body p .end) (held-impl .reads)
 
-    findings-are : (z : Slot) → slotFound (schemaOf s) (d .«trait_id») ≡ z → slotFindings (schemaOf s) slot ≡ onTrait (schemaOf s) slot (held-impl .held) z
+    findings-are : (z : Slot) → slotFound (schemaOf (f .edition) s) (d .«trait_id») ≡ z → slotFindings (schemaOf (f .edition) s) slot ≡ onTrait (schemaOf (f .edition) s) slot (held-impl .held) z
     unfolding slotFindings
     findings-are z q =
-        ap (implFindings (schemaOf s) slot) (held-impl .slotIs)
-        ∙ ap (λ (n : ℕ). onTrait (schemaOf s) slot (held-impl .held) (slotFound (schemaOf s) n)) (sym (impl-is .traitId))
-        ∙ ap (onTrait (schemaOf s) slot (held-impl .held)) q
+        ap (implFindings (schemaOf (f .edition) s) slot) (held-impl .slotIs)
+        ∙ ap (λ (n : ℕ). onTrait (schemaOf (f .edition) s) slot (held-impl .held) (slotFound (schemaOf (f .edition) s) n)) (sym (impl-is .traitId))
+        ∙ ap (onTrait (schemaOf (f .edition) s) slot (held-impl .held)) q
 
-    pub none-named : d .«trait_id» ≡ 0 → (t : List ℕ) → Adds 65536 t t held held (slotFindings (schemaOf s) slot)
-    none-named z t = adds-same 65536 (omega arith) (findings-are empty (ap (slotFound (schemaOf s)) z)) (adds-none 0 t held)
+    pub none-named : d .«trait_id» ≡ 0 → (t : List ℕ) → Adds 65536 t t held held (slotFindings (schemaOf (f .edition) s) slot)
+    none-named z t = adds-same 65536 (omega arith) (findings-are empty (ap (slotFound (schemaOf (f .edition) s)) z)) (adds-none 0 t held)
 
     module _ (some : d .«trait_id» ≡ 0 → ⊥) where
-      by-slot : (z : Slot) → slotOf (schemaOf s) (d .«trait_id» - 1) ≡ z → slotFindings (schemaOf s) slot ≡ onTrait (schemaOf s) slot (held-impl .held) z
-      by-slot z q = findings-are z (found-is (schemaOf s) (d .«trait_id») some ∙ q)
+      by-slot : (z : Slot) → slotOf (schemaOf (f .edition) s) (d .«trait_id» - 1) ≡ z → slotFindings (schemaOf (f .edition) s) slot ≡ onTrait (schemaOf (f .edition) s) slot (held-impl .held) z
+      by-slot z q = findings-are z (found-is (schemaOf (f .edition) s) (d .«trait_id») some ∙ q)
 
-      pub past-slots : f .slots < d .«trait_id» → (t : List ℕ) → Adds 65536 t t held held (slotFindings (schemaOf s) slot)
+      pub past-slots : f .slots < d .«trait_id» → (t : List ℕ) → Adds 65536 t t held held (slotFindings (schemaOf (f .edition) s) slot)
       past-slots h t = adds-same 65536 (omega arith) (by-slot empty (slots-past s starts f (a .promise) (d .«trait_id» - 1) (omega arith))) (adds-none 0 t held)
 
       module _ (h : d .«trait_id» ≤ f .slots) where
         there : d .«trait_id» - 1 < f .slots
         there = omega arith
 
-        pub no-part : partAt s starts (d .«trait_id» - 1) ≡ Part.Missing → (t : List ℕ) → Adds 65536 t t held held (slotFindings (schemaOf s) slot)
+        pub no-part : partAt s starts (d .«trait_id» - 1) ≡ Part.Missing → (t : List ℕ) → Adds 65536 t t held held (slotFindings (schemaOf (f .edition) s) slot)
         no-part q t = absurd (not-missing s starts f (a .promise) (d .«trait_id» - 1) there q)
 
         module _ (kind place : ℕ) (q : partAt s starts (d .«trait_id» - 1) ≡ Part.At kind place) where
-          its-part : Behind (f .names) s (slotOf (schemaOf s) (d .«trait_id» - 1)) kind place
+          its-part : Behind (f .edition) (f .names) s (slotOf (schemaOf (f .edition) s) (d .«trait_id» - 1)) kind place
           its-part = part-behind s starts f (a .promise) (d .«trait_id» - 1) there kind place q
 
-          pub not-a-trait : (kind ≡ 8 → ⊥) → (t : List ℕ) → Adds 65536 t t held held (slotFindings (schemaOf s) slot)
+          pub not-a-trait : (kind ≡ 8 → ⊥) → (t : List ℕ) → Adds 65536 t t held held (slotFindings (schemaOf (f .edition) s) slot)
           not-a-trait k t =
-              adds-same 65536 (omega arith) (by-slot (slotOf (schemaOf s) (d .«trait_id» - 1)) refl ∙ no-trait (schemaOf s) slot (held-impl .held) (slotOf (schemaOf s) (d .«trait_id» - 1)) (λ z. k (sym (its-part .kindIs) ∙ z))) (adds-none 0 t held)
+              adds-same 65536 (omega arith) (by-slot (slotOf (schemaOf (f .edition) s) (d .«trait_id» - 1)) refl ∙ no-trait (schemaOf (f .edition) s) slot (held-impl .held) (slotOf (schemaOf (f .edition) s) (d .«trait_id» - 1)) (λ z. k (sym (its-part .kindIs) ∙ z))) (adds-none 0 t held)
 
           module _ (k : kind ≡ 8) (e : TraitDef) (tells : (y : Trait) (end : ℕ) → read (traitAt (f .names)) s place ≡ done y end → TraitIs (f .names) s e y) where
-            held-trait : Made trait (traitAt (f .names)) s place (slotOf (schemaOf s) (d .«trait_id» - 1)) (its-part .end)
+            held-trait : Made trait (traitAt (f .names)) s place (slotOf (schemaOf (f .edition) s) (d .«trait_id» - 1)) (its-part .end)
             unfolding slotBodyAt
             held-trait = made-of s trait (traitAt (f .names)) place _ _ (body-at its-part 8 k)
 
@@ -104,8 +104,8 @@ module _ (s starts : List ℕ) (f : Frame) (slot held : ℕ) (a : SlotAsked s st
                   traitIs = tells (held-trait .held) (its-part .end) (held-trait .reads);
                 }
 
-            pub single : (t u : List ℕ) (r : ℕ) → ((b : Paired s starts f d e held) → Adds 65536 t u held r (conforming (schemaOf s) slot (b .impl) (b .trait)))
-                → Adds 65536 t u held r (slotFindings (schemaOf s) slot)
+            pub single : (t u : List ℕ) (r : ℕ) → ((b : Paired s starts f d e held) → Adds 65536 t u held r (conforming (schemaOf (f .edition) s) slot (b .impl) (b .trait)))
+                → Adds 65536 t u held r (slotFindings (schemaOf (f .edition) s) slot)
             unfolding paired
             single t u r g = adds-same 65536 (omega arith) (by-slot _ (held-trait .slotIs)) (g paired)
 

@@ -87,57 +87,57 @@ no-impl S i (trait u) h = refl
 no-impl S i (impl y) h = absurd (h refl)
 
 -- nothing is past the slots
-pub slots-past : (s starts : List ℕ) (f : Frame) → Promise s starts f → (j : ℕ) → f .slots ≤ j → slotOf (schemaOf s) j ≡ empty
+pub slots-past : (s starts : List ℕ) (f : Frame) → Promise s starts f → (j : ℕ) → f .slots ≤ j → slotOf (schemaOf (f .edition) s) j ≡ empty
 unfolding slotOf
-slots-past s starts f p j h = List·getD-eq-default (schemaOf s .slots) empty {n = j} (omega (arith, p .count))
+slots-past s starts f p j h = List·getD-eq-default (schemaOf (f .edition) s .slots) empty {n = j} (omega (arith, p .count))
 
 module _ (s starts : List ℕ) (f : Frame) (d : ImplDef) (e : TraitDef) (slot held : ℕ) where
   module _ (v : Value) (told : v ≡ headValue (read (headAt Resolved (f .names)) s (d .«target_type»))) where
-    target-is : (a : Paired s starts f d e held) (w : Value) → v ≡ w → targetFindings (schemaOf s) slot (a .impl) (a .trait) ≡ onValue (schemaOf s) slot (a .impl) (a .trait) w
+    target-is : (a : Paired s starts f d e held) (w : Value) → v ≡ w → targetFindings (schemaOf (f .edition) s) slot (a .impl) (a .trait) ≡ onValue (schemaOf (f .edition) s) slot (a .impl) (a .trait) w
     unfolding targetFindings
-    target-is a w q = ap (onValue (schemaOf s) slot (a .impl) (a .trait)) (sym (value-right (f .names) s (d .«target_type») v told (a .impl .target) (a .implIs .targetEnd) (a .implIs .target)) ∙ q)
+    target-is a w q = ap (onValue (schemaOf (f .edition) s) slot (a .impl) (a .trait)) (sym (value-right (f .names) s (d .«target_type») v told (a .impl .target) (a .implIs .targetEnd) (a .implIs .target)) ∙ q)
 
-    pub no-name : v ≡ Value.NotName → (t : List ℕ) (a : Paired s starts f d e held) → Adds 65536 t t held held (targetFindings (schemaOf s) slot (a .impl) (a .trait))
+    pub no-name : v ≡ Value.NotName → (t : List ℕ) (a : Paired s starts f d e held) → Adds 65536 t t held held (targetFindings (schemaOf (f .edition) s) slot (a .impl) (a .trait))
     no-name q t a = adds-same 65536 (omega arith) (target-is a _ q) (adds-none 0 t held)
 
     module _ (j : ℕ) (q : v ≡ Value.Id j) where
-      by-slot : (a : Paired s starts f d e held) (z : Slot) → slotOf (schemaOf s) j ≡ z → targetFindings (schemaOf s) slot (a .impl) (a .trait) ≡ onTarget (schemaOf s) slot (a .impl) (a .trait) z
-      by-slot a z h = target-is a _ q ∙ ap (onTarget (schemaOf s) slot (a .impl) (a .trait)) h
+      by-slot : (a : Paired s starts f d e held) (z : Slot) → slotOf (schemaOf (f .edition) s) j ≡ z → targetFindings (schemaOf (f .edition) s) slot (a .impl) (a .trait) ≡ onTarget (schemaOf (f .edition) s) slot (a .impl) (a .trait) z
+      by-slot a z h = target-is a _ q ∙ ap (onTarget (schemaOf (f .edition) s) slot (a .impl) (a .trait)) h
 
-      pub past-slots : f .slots ≤ j → (t : List ℕ) (a : Paired s starts f d e held) → Adds 65536 t t held held (targetFindings (schemaOf s) slot (a .impl) (a .trait))
+      pub past-slots : f .slots ≤ j → (t : List ℕ) (a : Paired s starts f d e held) → Adds 65536 t t held held (targetFindings (schemaOf (f .edition) s) slot (a .impl) (a .trait))
       past-slots h t a = adds-same 65536 (omega arith) (by-slot a empty (slots-past s starts f (a .promise) j h)) (adds-none 0 t held)
 
       module _ (there : j < f .slots) where
-        pub no-part : partAt s starts j ≡ Part.Missing → (t : List ℕ) (a : Paired s starts f d e held) → Adds 65536 t t held held (targetFindings (schemaOf s) slot (a .impl) (a .trait))
+        pub no-part : partAt s starts j ≡ Part.Missing → (t : List ℕ) (a : Paired s starts f d e held) → Adds 65536 t t held held (targetFindings (schemaOf (f .edition) s) slot (a .impl) (a .trait))
         no-part p t a = absurd (not-missing s starts f (a .promise) j there p)
 
         module _ (kind body : ℕ) (p : partAt s starts j ≡ Part.At kind body) where
-          behind : (a : Paired s starts f d e held) → Behind (f .names) s (slotOf (schemaOf s) j) kind body
+          behind : (a : Paired s starts f d e held) → Behind (f .edition) (f .names) s (slotOf (schemaOf (f .edition) s) j) kind body
           behind a = part-behind s starts f (a .promise) j there kind body p
 
-          pub not-there : kind ≡ 0 → (t : List ℕ) (a : Paired s starts f d e held) → Adds 65536 t t held held (targetFindings (schemaOf s) slot (a .impl) (a .trait))
+          pub not-there : kind ≡ 0 → (t : List ℕ) (a : Paired s starts f d e held) → Adds 65536 t t held held (targetFindings (schemaOf (f .edition) s) slot (a .impl) (a .trait))
           not-there k t a =
-              adds-same 65536 (omega arith) (by-slot a (slotOf (schemaOf s) j) refl ∙ nothing-there (schemaOf s) slot (a .impl) (a .trait) (slotOf (schemaOf s) j) (behind a .kindIs ∙ k)) (adds-none 0 t held)
+              adds-same 65536 (omega arith) (by-slot a (slotOf (schemaOf (f .edition) s) j) refl ∙ nothing-there (schemaOf (f .edition) s) slot (a .impl) (a .trait) (slotOf (schemaOf (f .edition) s) j) (behind a .kindIs ∙ k)) (adds-none 0 t held)
 
-          held-message : kind ≡ 1 → (a : Paired s starts f d e held) → Made message (messageAt (f .names)) s body (slotOf (schemaOf s) j) (behind a .end)
+          held-message : kind ≡ 1 → (a : Paired s starts f d e held) → Made message (messageAt (f .edition) (f .names)) s body (slotOf (schemaOf (f .edition) s) j) (behind a .end)
           unfolding slotBodyAt
-          held-message k a = made-of s message (messageAt (f .names)) body _ _ (body-at (behind a) 1 k)
+          held-message k a = made-of s message (messageAt (f .edition) (f .names)) body _ _ (body-at (behind a) 1 k)
 
           pub targeted : kind ≡ 1 → (place : ℕ) → place ≡ insideAt s starts j → Paired s starts f d e held → Targeted s starts f d e place held
-          targeted k place i a = let m = held-message k a in record { paired = a; message = m .held; end = behind a .end; reads = fields-inside s starts j p i k (f .names) (m .held) (behind a .end) (m .reads) }
+          targeted k place i a = let m = held-message k a in record { paired = a; message = m .held; end = behind a .end; reads = fields-inside s starts j p i k (f .edition) (f .names) (m .held) (behind a .end) (m .reads) }
 
           pub required : (k : kind ≡ 1) (place : ℕ) → place ≡ insideAt s starts j → (t u : List ℕ) (r : ℕ)
-              → ((b : Targeted s starts f d e place held) → Adds 65536 t u held r (lacking (schemaOf s) slot (b .paired .impl) (b .paired .trait .parameters) (b .message) 0 (b .paired .trait .fields)))
-              → (a : Paired s starts f d e held) → Adds 65536 t u held r (targetFindings (schemaOf s) slot (a .impl) (a .trait))
+              → ((b : Targeted s starts f d e place held) → Adds 65536 t u held r (lacking (schemaOf (f .edition) s) slot (b .paired .impl) (b .paired .trait .parameters) (b .message) 0 (b .paired .trait .fields)))
+              → (a : Paired s starts f d e held) → Adds 65536 t u held r (targetFindings (schemaOf (f .edition) s) slot (a .impl) (a .trait))
           unfolding targeted
           required k place i t u r h a = adds-same 65536 (omega arith) (by-slot a _ (held-message k a .slotIs)) (h (targeted k place i a))
 
           pub wrong-kind : (kind ≡ 0 → ⊥) → (kind ≡ 1 → ⊥) → (y : Finding) → y ≡ ownFinding 3 slot d 0 → (t u : List ℕ) (r : ℕ) → Adds 1 t u held r (cond false [] (y ∷ []))
-              → (a : Paired s starts f d e held) → Adds 65536 t u held r (targetFindings (schemaOf s) slot (a .impl) (a .trait))
+              → (a : Paired s starts f d e held) → Adds 65536 t u held r (targetFindings (schemaOf (f .edition) s) slot (a .impl) (a .trait))
           wrong-kind k l y own t u r h a =
               adds-same 65536 (omega arith)
-              (by-slot a (slotOf (schemaOf s) j) refl
-              ∙ no-message (schemaOf s) slot (a .impl) (a .trait) (slotOf (schemaOf s) j) (λ z. k (sym (behind a .kindIs) ∙ z)) (λ z. l (sym (behind a .kindIs) ∙ z))
+              (by-slot a (slotOf (schemaOf (f .edition) s) j) refl
+              ∙ no-message (schemaOf (f .edition) s) slot (a .impl) (a .trait) (slotOf (schemaOf (f .edition) s) j) (λ z. k (sym (behind a .kindIs) ∙ z)) (λ z. l (sym (behind a .kindIs) ∙ z))
               ∙ ap (λ (z : Finding). z ∷ []) (sym (own ∙ own-is (a .implIs) 3 slot 0)))
               h
 
@@ -146,8 +146,8 @@ module _ (s starts : List ℕ) (f : Frame) (d : ImplDef) (e : TraitDef) (slot he
   arguments-are a = many-length (typeAt (f .names)) s (d .«type_arg_count») (d .«type_args») (a .impl .arguments) (a .implIs .argumentsEnd) (a .implIs .arguments)
 
   pub same-arity : e .«type_param_count» ≡ d .«type_arg_count» → (t u : List ℕ) (r : ℕ)
-      → ((a : Paired s starts f d e held) → Adds 65536 t u held r (targetFindings (schemaOf s) slot (a .impl) (a .trait)))
-      → (a : Paired s starts f d e held) → Adds 65536 t u held r (conforming (schemaOf s) slot (a .impl) (a .trait))
+      → ((a : Paired s starts f d e held) → Adds 65536 t u held r (targetFindings (schemaOf (f .edition) s) slot (a .impl) (a .trait)))
+      → (a : Paired s starts f d e held) → Adds 65536 t u held r (conforming (schemaOf (f .edition) s) slot (a .impl) (a .trait))
   unfolding conforming targetFindings
   same-arity q t u r h a =
       let same = eq-eqb (length (a .trait .parameters)) (length (a .impl .arguments)) (sym (a .traitIs .parameterCount) ∙ q ∙ sym (arguments-are a)) in
@@ -155,7 +155,7 @@ module _ (s starts : List ℕ) (f : Frame) (d : ImplDef) (e : TraitDef) (slot he
 
   pub other-arity : (e .«type_param_count» ≡ d .«type_arg_count» → ⊥) → (t u : List ℕ) (r : ℕ)
       → Adds 1 t u held r (cond false [] (record { class = 2; slot = slot; offset = d .«trait_offset»; length = d .«trait_length»; a = e .«type_param_count»; b = d .«type_arg_count» } ∷ []))
-      → (a : Paired s starts f d e held) → Adds 65536 t u held r (conforming (schemaOf s) slot (a .impl) (a .trait))
+      → (a : Paired s starts f d e held) → Adds 65536 t u held r (conforming (schemaOf (f .edition) s) slot (a .impl) (a .trait))
   unfolding conforming
   other-arity q t u r h a =
       let other = ne-eqb (length (a .trait .parameters)) (length (a .impl .arguments)) (λ z. q (a .traitIs .parameterCount ∙ z ∙ arguments-are a)) in

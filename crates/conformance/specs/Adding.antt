@@ -47,4 +47,4 @@ pub record Targeted (s starts : List ℕ) (f : Frame) (d : ImplDef) (e : TraitDe
   pub paired : Paired s starts f d e count
   pub message : Message
   pub end : ℕ
-  pub reads : read (fieldsAt (f .names)) s place ≡ done (message .fields) end
+  pub reads : read (fieldsAt (f .edition) (f .names)) s place ≡ done (message .fields) end

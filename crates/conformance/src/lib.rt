@@ -156,7 +156,7 @@ fn check_required_fields(
     count: u64,
 ) -> u64
     requires { ⌜ Targeted (now image) (now starts) frame «impl_def» «trait_def» place count ⌝ }
-    ensures { λ r. ⌜ ((a : Targeted (now (image .entry)) (now (starts .entry)) frame «impl_def» «trait_def» place count) → Adds 65536 (now (findings .entry)) (now (findings .exit)) count r (lacking (schemaOf (now (image .entry))) slot (a .paired .impl) (a .paired .trait .parameters) (a .message) 0 (a .paired .trait .fields))) ⌝ }
+    ensures { λ r. ⌜ ((a : Targeted (now (image .entry)) (now (starts .entry)) frame «impl_def» «trait_def» place count) → Adds 65536 (now (findings .entry)) (now (findings .exit)) count r (lacking (schemaOf (frame .edition) (now (image .entry))) slot (a .paired .impl) (a .paired .trait .parameters) (a .message) 0 (a .paired .trait .fields))) ⌝ }
 {
     let mut finds = [0u16; 4096];
     image::read_finds(image, frame.finds, frame.names, &mut finds);
@@ -205,7 +205,7 @@ fn check_trait_fields(
     count: u64,
 ) -> u64
     requires { ⌜ Paired (now image) (now starts) frame «impl_def» «trait_def» count ⌝ }
-    ensures { λ r. ⌜ ((a : Paired (now (image .entry)) (now (starts .entry)) frame «impl_def» «trait_def» count) → Adds 65536 (now (findings .entry)) (now (findings .exit)) count r (targetFindings (schemaOf (now (image .entry))) slot (a .impl) (a .trait))) ⌝ }
+    ensures { λ r. ⌜ ((a : Paired (now (image .entry)) (now (starts .entry)) frame «impl_def» «trait_def» count) → Adds 65536 (now (findings .entry)) (now (findings .exit)) count r (targetFindings (schemaOf (frame .edition) (now (image .entry))) slot (a .impl) (a .trait))) ⌝ }
 {
     match meanings::type_value(image, impl_def.target_type, frame.names) {
         Value::Id(target) => {
@@ -247,7 +247,7 @@ fn check_single_impl_conformance(
     count: u64,
 ) -> u64
     requires { ⌜ Paired (now image) (now starts) frame «impl_def» «trait_def» count ⌝ }
-    ensures { λ r. ⌜ ((a : Paired (now (image .entry)) (now (starts .entry)) frame «impl_def» «trait_def» count) → Adds 65536 (now (findings .entry)) (now (findings .exit)) count r (conforming (schemaOf (now (image .entry))) slot (a .impl) (a .trait))) ⌝ }
+    ensures { λ r. ⌜ ((a : Paired (now (image .entry)) (now (starts .entry)) frame «impl_def» «trait_def» count) → Adds 65536 (now (findings .entry)) (now (findings .exit)) count r (conforming (schemaOf (frame .edition) (now (image .entry))) slot (a .impl) (a .trait))) ⌝ }
 {
     if trait_def.type_param_count == impl_def.type_arg_count {
         return check_trait_fields(
@@ -283,7 +283,7 @@ fn check_impl(
     count: u64,
 ) -> u64
     requires { ⌜ SlotAsked (now image) (now starts) frame slot count × (partAt (now image) (now starts) slot ≡ Part.At 9 body) ⌝ }
-    ensures { λ r. ⌜ Adds 65536 (now (findings .entry)) (now (findings .exit)) count r (slotFindings (schemaOf (now (image .entry))) slot) ⌝ }
+    ensures { λ r. ⌜ Adds 65536 (now (findings .entry)) (now (findings .exit)) count r (slotFindings (schemaOf (frame .edition) (now (image .entry))) slot) ⌝ }
 {
     let impl_def = read_impl(image, body, frame.names);
     let trait_id = impl_def.trait_id as u64;
@@ -323,7 +323,7 @@ fn check_slot(
     count: u64,
 ) -> u64
     requires { ⌜ SlotAsked (now image) (now starts) frame slot count ⌝ }
-    ensures { λ r. ⌜ Adds 65536 (now (findings .entry)) (now (findings .exit)) count r (slotFindings (schemaOf (now (image .entry))) slot) ⌝ }
+    ensures { λ r. ⌜ Adds 65536 (now (findings .entry)) (now (findings .exit)) count r (slotFindings (schemaOf (frame .edition) (now (image .entry))) slot) ⌝ }
 {
     match view::slot_part(image, starts, slot) {
         Part::At(kind, body) => {
@@ -345,7 +345,7 @@ pub fn check_impl_conformance(
     count: u64,
 ) -> u64
     requires { ⌜ Promise (now image) (now starts) frame × (count ≤ 2 ^ 27) ⌝ }
-    ensures { λ r. ⌜ Adds (2 ^ 25) (now (findings .entry)) (now (findings .exit)) count r (conformanceOf (schemaOf (now (image .entry))) 0 (schemaOf (now (image .entry)) .slots)) ⌝ }
+    ensures { λ r. ⌜ Adds (2 ^ 25) (now (findings .entry)) (now (findings .exit)) count r (conformanceOf (schemaOf (frame .edition) (now (image .entry))) 0 (schemaOf (frame .edition) (now (image .entry)) .slots)) ⌝ }
 {
     let slots = frame.slots as usize;
     let mut n = count;
@@ -358,7 +358,7 @@ pub fn check_impl_conformance(
 }
 
 fn is_impl(image: &[u8], starts: &[usize], slot: usize) -> bool
-    ensures { λ r. ⌜ ((f : Frame) → Promise (now (image .entry)) (now (starts .entry)) f → slot < f .slots → r ≡ eqb (slotKind (slotOf (schemaOf (now (image .entry))) slot)) 9) ⌝ }
+    ensures { λ r. ⌜ ((f : Frame) → Promise (now (image .entry)) (now (starts .entry)) f → slot < f .slots → r ≡ eqb (slotKind (slotOf (schemaOf (f .edition) (now (image .entry))) slot)) 9) ⌝ }
 {
     match view::slot_part(image, starts, slot) {
         Part::At(kind, _) => kind == 9,
@@ -369,7 +369,7 @@ fn is_impl(image: &[u8], starts: &[usize], slot: usize) -> bool
 // Is there an impl? Most images have none.
 pub fn has_impls(image: &[u8], starts: &[usize], frame: Frame) -> bool
     requires { ⌜ Promise (now image) (now starts) frame ⌝ }
-    ensures { λ r. ⌜ r ≡ hasImpl (schemaOf (now (image .entry)) .slots) ⌝ }
+    ensures { λ r. ⌜ r ≡ hasImpl (schemaOf (frame .edition) (now (image .entry)) .slots) ⌝ }
 {
     let slots = frame.slots as usize;
     let mut i: usize = 0;

@@ -15,6 +15,7 @@ use Rattle.number.specs.Answers.{next}
 use Rattle.number.specs.declared.Next.{Next}
 use Rattle.number.proofs.Reading.{read-bind, read-number, read-done, then-on, then-stop, then-done, number-on, number-refused, next-at, next-refused, not-done, given}
 use Rattle.number.proofs.InRange.{below-is}
+use Rattle.slot.specs.declared.Edition.{Edition}
 use Rattle.image.specs.Image.{Front, frontWith, frontAt, Placed, placedAt, Declared, declaredAt, Image, endAt, imageAt, whole, imageOf, startsOf, readable, slotsAfter, readableSlots, frameIn, framed, fronted, ended}
 use Rattle.image.proofs.Tables.{readable-all}
 use Rattle.image.specs.declared.Framed.{Framed}
@@ -91,17 +92,17 @@ module _ (s : List ℕ) where
       go (done f n) x y = let z : _≡_ {A = ℕ} 0 1 = cc in absurd (omega arith)
       go (refused r′ q′) x y = let a : r′ ≡ r = cc in let b : q′ ≡ q = cc in x ∙ rw (a, b)
 
-  module _ (at : ℕ) (f : Front) (ss : List Placed) where
+  module _ (ed : Edition) (at : ℕ) (f : Front) (ss : List Placed) where
     -- the end of an image, from what is said of its declarations
-    end-of : read (endAt f ss) s at ≡ andThen (read declaredAt s at) (λ d n. done (record { front = f; slots = ss; declared = d }) n)
+    end-of : read (endAt ed f ss) s at ≡ andThen (read declaredAt s at) (λ d n. done (record { edition = ed; front = f; slots = ss; declared = d }) n)
     unfolding endAt read
     end-of = read-bind declaredAt _ s at
 
-    pub no-end : (r q : ℕ) → Ended.Refused r q ≡ ended (read declaredAt s at) → Framed.Refused r q ≡ framed (whole s (read (endAt f ss) s at))
+    pub no-end : (r q : ℕ) → Ended.Refused r q ≡ ended (read declaredAt s at) → Framed.Refused r q ≡ framed (whole s (read (endAt ed f ss) s at))
     unfolding whole
     no-end r q e = go (read declaredAt s at) refl e
       where
-        go : (o : Outcome Declared) → read declaredAt s at ≡ o → Ended.Refused r q ≡ ended o → Framed.Refused r q ≡ framed (whole s (read (endAt f ss) s at))
+        go : (o : Outcome Declared) → read declaredAt s at ≡ o → Ended.Refused r q ≡ ended o → Framed.Refused r q ≡ framed (whole s (read (endAt ed f ss) s at))
         go (done d n) x y = let z : _≡_ {A = ℕ} 0 1 = cc in absurd (omega arith)
         go (refused r′ q′) x y = let a : r ≡ r′ = cc in let b : q ≡ q′ = cc in rw (a, b) (sym (ap (λ (o : Outcome Image). framed (whole s o)) (end-of ∙ then-stop _ _ x)))
 
@@ -113,11 +114,11 @@ module _ (s : List ℕ) where
           go (done d m) x y = let k : m ≡ n = cc in (d, x ∙ ap (done d) k, cc, cc)
           go (refused r q) x y = let z : _≡_ {A = ℕ} 0 1 = cc in absurd (omega arith)
 
-      pub extra : n < length s → Framed.Refused 6 n ≡ framed (whole s (read (endAt f ss) s at))
+      pub extra : n < length s → Framed.Refused 6 n ≡ framed (whole s (read (endAt ed f ss) s at))
       unfolding whole
       extra h = let d = ending in sym (ap (λ (o : Outcome Image). framed (whole s o)) (end-of ∙ then-on _ _ (d .1)) ∙ simp (lt-ltb _ _ h))
 
-      pub complete : length s ≤ n → Framed.Read (record { names = f .names; finds = f .findsPlace; slots = f .slotCount; declarations = c; declared = p }) ≡ framed (whole s (read (endAt f ss) s at))
+      pub complete : length s ≤ n → Framed.Read (record { edition = ed; names = f .names; finds = f .findsPlace; slots = f .slotCount; declarations = c; declared = p }) ≡ framed (whole s (read (endAt ed f ss) s at))
       unfolding whole frameIn
       complete h =
           let d = ending in
@@ -134,17 +135,19 @@ module _ (s : List ℕ) where
   whole-done (refused r q) i n e = let z : _≡_ {A = ℕ} 0 1 = cc in absurd (omega arith)
 
   -- the image that a front and slots end in
-  record Ending (f : Front) (ss : List Placed) (p : ℕ) (i : Image) (n : ℕ) : Type 0 where
+  record Ending (ed : Edition) (f : Front) (ss : List Placed) (p : ℕ) (i : Image) (n : ℕ) : Type 0 where
+    editionSame : i .edition ≡ ed
     frontSame : i .front ≡ f
     slotsSame : i .slots ≡ ss
     declaredRead : read declaredAt s p ≡ done (i .declared) n
     last : length s ≤ n
 
-  ending-is : (f : Front) (ss : List Placed) (p : ℕ) (i : Image) (n : ℕ) → (read (endAt f ss) s p ≡ done i n) × (length s ≤ n) → Ending f ss p i n
-  ending-is f ss p i n w =
-      let d = then-done (read declaredAt s p) _ (sym (end-of p f ss) ∙ w .0) in
+  ending-is : (ed : Edition) (f : Front) (ss : List Placed) (p : ℕ) (i : Image) (n : ℕ) → (read (endAt ed f ss) s p ≡ done i n) × (length s ≤ n) → Ending ed f ss p i n
+  ending-is ed f ss p i n w =
+      let d = then-done (read declaredAt s p) _ (sym (end-of ed p f ss) ∙ w .0) in
       let g = given (d .3) in
       record {
+        editionSame = ap (λ (j : Image). j .edition) (sym (g .0));
         frontSame = ap (λ (j : Image). j .front) (sym (g .0));
         slotsSame = ap (λ (j : Image). j .slots) (sym (g .0));
         declaredRead = d .2 ∙ ap (done (d .0)) (g .1) ∙ ap (λ (j : Image). done (j .declared) n) (g .0);
@@ -152,32 +155,32 @@ module _ (s : List ℕ) where
       }
 
   -- what the code says of an image, and of a table that had l
-  abbrev pub Said : Framed → (l l′ : List ℕ) → Type 0
-  Said x l l′ = (x ≡ framed (imageOf s)) × (l′ ≡ sets l 0 (startsOf (readableSlots s)))
+  abbrev pub Said : Edition → Framed → (l l′ : List ℕ) → Type 0
+  Said ed x l l′ = (x ≡ framed (imageOf ed s)) × (l′ ≡ sets l 0 (startsOf (readableSlots ed s)))
 
-  too-big : 65536 < length s → imageOf s ≡ refused 1 0
+  too-big : (ed : Edition) → 65536 < length s → imageOf ed s ≡ refused 1 0
   unfolding imageOf
-  too-big h = simp (lt-ltb _ _ h)
+  too-big ed h = simp (lt-ltb _ _ h)
 
-  pub big : 65536 < length s → (l : List ℕ) → Said (Framed.Refused 1 0) l l
+  pub big : (ed : Edition) → 65536 < length s → (l : List ℕ) → Said ed (Framed.Refused 1 0) l l
   unfolding readableSlots
-  big h l = (sym (ap framed (too-big h)), simp (lt-ltb _ _ h))
+  big ed h l = (sym (ap framed (too-big ed h)), simp (lt-ltb _ _ h))
 
-  module _ (h : length s ≤ 65536) where
-    small : imageOf s ≡ whole s (andThen (read frontAt s 0) (λ f at. andThen (read (many (f .slotCount) (placedAt (f .names))) s at) (λ ss p. read (endAt f ss) s p)))
+  module _ (ed : Edition) (h : length s ≤ 65536) where
+    small : imageOf ed s ≡ whole s (andThen (read frontAt s 0) (λ f at. andThen (read (many (f .slotCount) (placedAt ed (f .names))) s at) (λ ss p. read (endAt ed f ss) s p)))
     unfolding imageOf imageAt andThen read
     small = simp (le-ltb _ _ h) (ap (whole s) (read-bind frontAt _ s 0 ∙ inner (read frontAt s 0)))
       where
-        inner : (o : Outcome Front) → andThen o (λ f at. read (_>>=_ (many (f .slotCount) (placedAt (f .names))) (λ ss. endAt f ss)) s at)
-            ≡ andThen o (λ f at. andThen (read (many (f .slotCount) (placedAt (f .names))) s at) (λ ss p. read (endAt f ss) s p))
-        inner (done f at) = read-bind (many (f .slotCount) (placedAt (f .names))) _ s at
+        inner : (o : Outcome Front) → andThen o (λ f at. read (_>>=_ (many (f .slotCount) (placedAt ed (f .names))) (λ ss. endAt ed f ss)) s at)
+            ≡ andThen o (λ f at. andThen (read (many (f .slotCount) (placedAt ed (f .names))) s at) (λ ss p. read (endAt ed f ss) s p))
+        inner (done f at) = read-bind (many (f .slotCount) (placedAt ed (f .names))) _ s at
         inner (refused r q) = refl
 
-    slots-after : {o : Outcome Front} → read frontAt s 0 ≡ o → readableSlots s ≡ slotsAfter s o
+    slots-after : {o : Outcome Front} → read frontAt s 0 ≡ o → readableSlots ed s ≡ slotsAfter ed s o
     unfolding readableSlots
-    slots-after e = simp (le-ltb _ _ h) (ap (slotsAfter s) e)
+    slots-after e = simp (le-ltb _ _ h) (ap (slotsAfter ed s) e)
 
-    pub no-names : (r q : ℕ) → fronted (read frontAt s 0) ≡ Fronted.Refused r q → (l : List ℕ) → Said (Framed.Refused r q) l l
+    pub no-names : (r q : ℕ) → fronted (read frontAt s 0) ≡ Fronted.Refused r q → (l : List ℕ) → Said ed (Framed.Refused r q) l l
     unfolding whole
     no-names r q e l =
         let f = no-front r q e in (
@@ -186,20 +189,20 @@ module _ (s : List ℕ) where
         )
 
     module _ (names finds c at : ℕ) (e : fronted (read frontAt s 0) ≡ Fronted.Read names finds c at) where
-      written : (l l′ : List ℕ) → l′ ≡ sets l 0 (startsOf (readable c (placedAt names) s at)) → l′ ≡ sets l 0 (startsOf (readableSlots s))
+      written : (l l′ : List ℕ) → l′ ≡ sets l 0 (startsOf (readable c (placedAt ed names) s at)) → l′ ≡ sets l 0 (startsOf (readableSlots ed s))
       written l l′ w = w ∙ ap (λ (ss : List Placed). sets l 0 (startsOf ss)) (sym (slots-after (front-is names finds c at e .1)))
 
-      pub no-slots : (r q : ℕ) → next (read (many c (placedAt names)) s at) ≡ Next.Refused r q → (l l′ : List ℕ)
-          → l′ ≡ sets l 0 (startsOf (readable c (placedAt names) s at)) → Said (Framed.Refused r q) l l′
+      pub no-slots : (r q : ℕ) → next (read (many c (placedAt ed names)) s at) ≡ Next.Refused r q → (l l′ : List ℕ)
+          → l′ ≡ sets l 0 (startsOf (readable c (placedAt ed names) s at)) → Said ed (Framed.Refused r q) l l′
       unfolding whole
       no-slots r q f l l′ w =
           (sym (ap framed (small ∙ ap (whole s) (then-on _ _ (front-is names finds c at e .1) ∙ then-stop _ _ (next-refused _ f)))), written l l′ w)
 
-      pub image-read : (p : ℕ) → next (read (many c (placedAt names)) s at) ≡ Next.At p → (x : Framed) → ((fs : List ℕ) (ss : List Placed) → x ≡ framed (whole s (read (endAt (frontWith names finds fs c) ss) s p)))
-          → (l l′ : List ℕ) → l′ ≡ sets l 0 (startsOf (readable c (placedAt names) s at)) → Said x l l′
+      pub image-read : (p : ℕ) → next (read (many c (placedAt ed names)) s at) ≡ Next.At p → (x : Framed) → ((fs : List ℕ) (ss : List Placed) → x ≡ framed (whole s (read (endAt ed (frontWith names finds fs c) ss) s p)))
+          → (l l′ : List ℕ) → l′ ≡ sets l 0 (startsOf (readable c (placedAt ed names) s at)) → Said ed x l l′
       image-read p g x y l l′ w =
           let f = front-is names finds c at e in
-          let a = next-at (read (many c (placedAt names)) s at) g in
+          let a = next-at (read (many c (placedAt ed names)) s at) g in
           (y (f .0) (a .0) ∙ sym (ap framed (small ∙ ap (whole s) (then-on _ _ (f .1) ∙ then-on _ _ (a .1)))), written l l′ w)
 
 -- the parts of a front that was read
@@ -241,36 +244,38 @@ declared-parts s at d n e =
         rw (← g .0) (b .here ∙ ap (done (b .first)) (g .1))
 
 -- the parts of an image that was accepted
-pub record Accepted (s : List ℕ) (i : Image) (end : ℕ) : Type 0 where
+pub record Accepted (ed : Edition) (s : List ℕ) (i : Image) (end : ℕ) : Type 0 where
+  pub edition : i .edition ≡ ed
   pub few : length s ≤ 65536
   pub slotsPlace : ℕ
   pub declarationsPlace : ℕ
   pub frontRead : read frontAt s 0 ≡ done (i .front) slotsPlace
-  pub slotsRead : read (many (i .front .slotCount) (placedAt (i .front .names))) s slotsPlace ≡ done (i .slots) declarationsPlace
+  pub slotsRead : read (many (i .front .slotCount) (placedAt ed (i .front .names))) s slotsPlace ≡ done (i .slots) declarationsPlace
   pub declaredRead : read declaredAt s declarationsPlace ≡ done (i .declared) end
   pub last : length s ≤ end
 
-pub accepted : (s : List ℕ) (i : Image) (n : ℕ) → imageOf s ≡ done i n → Accepted s i n
-accepted s i n e = by-cases (decLt 65536 (length s)) (λ h. absurd (not-done (too-big s h) e)) (λ h. within (omega arith))
+pub accepted : (ed : Edition) (s : List ℕ) (i : Image) (n : ℕ) → imageOf ed s ≡ done i n → Accepted ed s i n
+accepted ed s i n e = by-cases (decLt 65536 (length s)) (λ h. absurd (not-done (too-big s ed h) e)) (λ h. within (omega arith))
   where
-    within : length s ≤ 65536 → Accepted s i n
+    within : length s ≤ 65536 → Accepted ed s i n
     within h =
-        let d = whole-done s _ i n (sym (small s h) ∙ e) in
+        let d = whole-done s _ i n (sym (small s ed h) ∙ e) in
         let f = then-done (read frontAt s 0) _ (d .0) in
-        let g = then-done (read (many (f .0 .slotCount) (placedAt (f .0 .names))) s (f .1)) _ (f .3) in
-        let k = ending-is s (f .0) (g .0) (g .1) i n (g .3, d .1) in
+        let g = then-done (read (many (f .0 .slotCount) (placedAt ed (f .0 .names))) s (f .1)) _ (f .3) in
+        let k = ending-is s ed (f .0) (g .0) (g .1) i n (g .3, d .1) in
         record {
+          edition = k .editionSame;
           few = h;
           slotsPlace = f .1;
           declarationsPlace = g .1;
           frontRead = f .2 ∙ ap (λ (x : Front). done x (f .1)) (sym (k .frontSame));
-          slotsRead = ap (λ (x : Front). read (many (x .slotCount) (placedAt (x .names))) s (f .1)) (k .frontSame) ∙ g .2 ∙ ap (λ (ss : List Placed). done ss (g .1)) (sym (k .slotsSame));
+          slotsRead = ap (λ (x : Front). read (many (x .slotCount) (placedAt ed (x .names))) s (f .1)) (k .frontSame) ∙ g .2 ∙ ap (λ (ss : List Placed). done ss (g .1)) (sym (k .slotsSame));
           declaredRead = k .declaredRead;
           last = k .last;
         }
 
 -- its slots were all read
-pub all-readable : (s : List ℕ) (i : Image) (n : ℕ) → imageOf s ≡ done i n → readableSlots s ≡ i .slots
-all-readable s i n e =
-    let a = accepted s i n e in
-    slots-after s (a .few) (a .frontRead) ∙ readable-all (placedAt (i .front .names)) s (i .front .slotCount) (a .slotsPlace) (i .slots) (a .declarationsPlace) (a .slotsRead)
+pub all-readable : (ed : Edition) (s : List ℕ) (i : Image) (n : ℕ) → imageOf ed s ≡ done i n → readableSlots ed s ≡ i .slots
+all-readable ed s i n e =
+    let a = accepted ed s i n e in
+    slots-after s ed (a .few) (a .frontRead) ∙ readable-all (placedAt ed (i .front .names)) s (i .front .slotCount) (a .slotsPlace) (i .slots) (a .declarationsPlace) (a .slotsRead)

@@ -1,4 +1,4 @@
--- The image: names, slots and declarations, and nothing after them. Refusals 1 to 6.
+-- The image, of either edition: names, slots and declarations, and nothing after them. Refusals 1 to 6.
 use Prim.Native.Nat.{ℕ, zero, suc, _^_}
 use mathlib.Core.List.{List, [], _∷_, map}
 use mathlib.Core.Bool.{cond}
@@ -6,6 +6,7 @@ use lib.ListN.{length}
 use lib.Dec.{ltb}
 use Rattle.number.specs.Grammar.{slot, count, Grammar, give, _>>=_, number, here, many, Outcome, done, refused, read}
 use Rattle.slot.specs.Slot.{Slot, slotAt}
+use Rattle.slot.specs.declared.Edition.{Edition}
 use Rattle.image.specs.Schema.{Schema}
 use Rattle.image.specs.declared.Frame.{Frame}
 use Rattle.image.specs.declared.Framed.{Framed}
@@ -35,10 +36,10 @@ pub record Placed : Type 0 where
   pub start : ℕ
   pub content : Slot
 
-unfoldable pub placedAt : (names : ℕ) → Grammar Placed
-placedAt names = do
+unfoldable pub placedAt : Edition → (names : ℕ) → Grammar Placed
+placedAt ed names = do
   p ← here
-  x ← slotAt names
+  x ← slotAt ed names
   give (record { start = p; content = x })
 
 -- how many declarations there are, where they stand, and the slots declared
@@ -55,21 +56,22 @@ declaredAt = do
   give (record { declarations = c; declaredPlace = p; declared = ds })
 
 pub record Image : Type 0 where
+  pub edition : Edition
   pub front : Front
   pub slots : List Placed
   pub declared : Declared
 
 -- the image of a front and slots, and the declarations that follow them
-unfoldable pub endAt : Front → List Placed → Grammar Image
-endAt f ss = do
+unfoldable pub endAt : Edition → Front → List Placed → Grammar Image
+endAt ed f ss = do
   d ← declaredAt
-  give (record { front = f; slots = ss; declared = d })
+  give (record { edition = ed; front = f; slots = ss; declared = d })
 
-unfoldable pub imageAt : Grammar Image
-imageAt = do
+unfoldable pub imageAt : Edition → Grammar Image
+imageAt ed = do
   f ← frontAt
-  ss ← many (f .slotCount) (placedAt (f .names))
-  endAt f ss
+  ss ← many (f .slotCount) (placedAt ed (f .names))
+  endAt ed f ss
 
 -- refusal 6 at the first byte after the last declaration
 unfoldable pub whole : List ℕ → Outcome Image → Outcome Image
@@ -77,8 +79,8 @@ whole s (done i n) = cond (ltb n (length s)) (refused 6 n) (done i n)
 whole s (refused r p) = refused r p
 
 -- refusal 1 for an image above 65,536 bytes
-unfoldable pub imageOf : List ℕ → Outcome Image
-imageOf s = cond (ltb 65536 (length s)) (refused 1 0) (whole s (read imageAt s 0))
+unfoldable pub imageOf : Edition → List ℕ → Outcome Image
+imageOf ed s = cond (ltb 65536 (length s)) (refused 1 0) (whole s (read (imageAt ed) s 0))
 
 -- where the slots start, and what they hold
 abbrev pub startsOf : List Placed → List ℕ
@@ -97,12 +99,12 @@ readable zero g s at = []
 readable (suc n) g s at = ahead (read g s at) (λ next. readable n g s next)
 
 -- the slots of an image, as far as they are read
-abbrev pub slotsAfter : List ℕ → Outcome Front → List Placed
-slotsAfter s (done f at) = readable (f .slotCount) (placedAt (f .names)) s at
-slotsAfter s (refused r p) = []
+abbrev pub slotsAfter : Edition → List ℕ → Outcome Front → List Placed
+slotsAfter ed s (done f at) = readable (f .slotCount) (placedAt ed (f .names)) s at
+slotsAfter ed s (refused r p) = []
 
-unfoldable pub readableSlots : List ℕ → List Placed
-readableSlots s = cond (ltb 65536 (length s)) [] (slotsAfter s (read frontAt s 0))
+unfoldable pub readableSlots : Edition → List ℕ → List Placed
+readableSlots ed s = cond (ltb 65536 (length s)) [] (slotsAfter ed s (read frontAt s 0))
 
 -- the schema of an image
 unfoldable pub schemaIn : Image → Schema
@@ -112,6 +114,7 @@ schemaIn i = record { finds = i .front .finds; slots = contentsOf (i .slots); de
 unfoldable pub frameIn : Image → Frame
 frameIn i =
     record {
+      edition = i .edition;
       names = i .front .names;
       finds = i .front .findsPlace;
       slots = i .front .slotCount;

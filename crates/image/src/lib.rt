@@ -1,6 +1,7 @@
 // The whole image: names, slots, declarations.
 use number::Next;
 use number::Ranged;
+use slot::Edition;
 ghost use mathlib.Core.Path.{_≡_};
 ghost use mathlib.Core.List.{List};
 ghost use Prim.Native.Nat.{ℕ};
@@ -11,9 +12,10 @@ ghost use Rattle.number.specs.Answers.{next};
 ghost use Rattle.image.specs.Finds.{findsAt};
 ghost use Rattle.image.specs.Image.{Placed, placedAt, startsOf, readable, readableSlots, frontAt, declaredAt, frontWith, endAt, whole, imageOf, framed, fronted, ended};
 
-// Where the parts of an image stand: how many names, and the position of what they find; how many slots; how many
+// The edition of an image, and where its parts stand: how many names, and the position of what they find; how many slots; how many
 // declarations, and their position.
 pub struct Frame {
+    pub edition: Edition,
     pub names: u64,
     pub finds: usize,
     pub slots: u64,
@@ -75,14 +77,21 @@ fn note(starts: &mut [usize], i: u64, p: usize)
 }
 
 // The position after the slots; where each starts is written into a table, as far as they are read.
-fn read_slots(image: &[u8], at: usize, count: u64, names: u64, starts: &mut [usize]) -> Next
-    ensures end { λ r. ⌜ r ≡ next (read (many count (placedAt names)) (now (image .entry)) at) ⌝ }
-    ensures table { λ _. ⌜ now (starts .exit) ≡ sets (now (starts .entry)) 0 (startsOf (readable count (placedAt names) (now (image .entry)) at)) ⌝ }
+fn read_slots(
+    image: &[u8],
+    at: usize,
+    edition: Edition,
+    count: u64,
+    names: u64,
+    starts: &mut [usize],
+) -> Next
+    ensures end { λ r. ⌜ r ≡ next (read (many count (placedAt edition names)) (now (image .entry)) at) ⌝ }
+    ensures table { λ _. ⌜ now (starts .exit) ≡ sets (now (starts .entry)) 0 (startsOf (readable count (placedAt edition names) (now (image .entry)) at)) ⌝ }
 {
     let mut p = at;
     let mut i: u64 = 0;
     while i < count {
-        match slot::read_slot(image, p, names) {
+        match slot::read_slot(image, p, edition, names) {
             Next::At(after) => {
                 note(starts, i, p);
                 p = after;
@@ -97,8 +106,15 @@ fn read_slots(image: &[u8], at: usize, count: u64, names: u64, starts: &mut [usi
 }
 
 // What stands after the slots.
-fn read_end(image: &[u8], at: usize, names: u64, finds: usize, slots: u64) -> Framed
-    ensures { λ r. ⌜ ((fs : List ℕ) (ss : List Placed) → r ≡ framed (whole (now (image .entry)) (read (endAt (frontWith names finds fs slots) ss) (now (image .entry)) at))) ⌝ }
+fn read_end(
+    image: &[u8],
+    at: usize,
+    edition: Edition,
+    names: u64,
+    finds: usize,
+    slots: u64,
+) -> Framed
+    ensures { λ r. ⌜ ((fs : List ℕ) (ss : List Placed) → r ≡ framed (whole (now (image .entry)) (read (endAt edition (frontWith names finds fs slots) ss) (now (image .entry)) at))) ⌝ }
 {
     match read_declared(image, at) {
         Ended::Read(declarations, declared, end) => {
@@ -106,6 +122,7 @@ fn read_end(image: &[u8], at: usize, names: u64, finds: usize, slots: u64) -> Fr
                 return Framed::Refused(6, end);
             }
             Framed::Read(Frame {
+                edition,
                 names,
                 finds,
                 slots,
@@ -118,9 +135,9 @@ fn read_end(image: &[u8], at: usize, names: u64, finds: usize, slots: u64) -> Fr
 }
 
 // Refusals 1 to 6. Where the slots start is written into a table, as far as they are read and the table reaches.
-pub fn read_image(image: &[u8], starts: &mut [usize]) -> Framed
-    ensures answer { λ r. ⌜ r ≡ framed (imageOf (now (image .entry))) ⌝ }
-    ensures table { λ _. ⌜ now (starts .exit) ≡ sets (now (starts .entry)) 0 (startsOf (readableSlots (now (image .entry)))) ⌝ }
+pub fn read_image(image: &[u8], edition: Edition, starts: &mut [usize]) -> Framed
+    ensures answer { λ r. ⌜ r ≡ framed (imageOf edition (now (image .entry))) ⌝ }
+    ensures table { λ _. ⌜ now (starts .exit) ≡ sets (now (starts .entry)) 0 (startsOf (readableSlots edition (now (image .entry)))) ⌝ }
 {
     if 65536 < image.len() {
         return Framed::Refused(1, 0);
@@ -129,11 +146,12 @@ pub fn read_image(image: &[u8], starts: &mut [usize]) -> Framed
         Fronted::Read(names, finds, count, at) => match read_slots(
             image,
             at,
+            edition,
             count,
             names,
             starts,
         ) {
-            Next::At(p) => read_end(image, p, names, finds, count),
+            Next::At(p) => read_end(image, p, edition, names, finds, count),
             Next::Refused(r, q) => Framed::Refused(r, q),
         },
         Fronted::Refused(r, q) => Framed::Refused(r, q),

@@ -14,6 +14,7 @@ use Rattle.tree.specs.declared.Sort.{Sort}
 use Rattle.tree.specs.declared.Sort.the-variants.{Resolved, Expression}
 use Rattle.slot.specs.Slot.{Slot, empty, message, enum, flags, union, newtype, newtypeAt, config, alias, aliasAt, trait, impl, slotKind, slotBodyAt, slotAt}
 use Rattle.slot.proofs.Whole.{SlotParts, made-of, slot-parts}
+use Rattle.slot.specs.declared.Edition.{Edition}
 use Rattle.view.specs.Part.{partAt}
 use Rattle.view.specs.Inside.{nameCount, insideAt}
 use Rattle.view.specs.declared.Part.{Part}
@@ -46,10 +47,10 @@ other-kind sort finds (trait t) h = refl
 other-kind sort finds (impl i) h = refl
 
 -- a slot that was read where it starts
-module _ (names : ℕ) (s starts : List ℕ) (row : ℕ) (named : nameCount s ≡ names) (l : row < length starts) (x : Slot) (end : ℕ)
-    (e : read (slotAt names) s (getD starts row 0) ≡ done x end) where
-  here : SlotParts s names (getD starts row 0) x end
-  here = slot-parts s names (getD starts row 0) x end e
+module _ (ed : Edition) (names : ℕ) (s starts : List ℕ) (row : ℕ) (named : nameCount s ≡ names) (l : row < length starts) (x : Slot) (end : ℕ)
+    (e : read (slotAt ed names) s (getD starts row 0) ≡ done x end) where
+  here : SlotParts s ed names (getD starts row 0) x end
+  here = slot-parts s ed names (getD starts row 0) x end e
 
   part : partAt s starts row ≡ Part.At (slotKind x) (here .body)
   part = sym (fetched s starts row l _ _ (here .kindRead))
@@ -71,23 +72,23 @@ module _ (names : ℕ) (s starts : List ℕ) (row : ℕ) (named : nameCount s �
 module _ (sort : Sort) (finds : List ℕ) (names : ℕ) (s starts : List ℕ) (row : ℕ) (m : List ℕ) (b : Bool) (q : b ≡ partLeads sort (partAt s starts row)) where
   pub row-of : b ≡ true → (start z : ℕ) (m′ : List ℕ) → start ≡ insideAt s starts row → TreeMarked sort names 32 finds row s start m m′ z
       → SlotMarked sort names finds row s starts m m′
-  row-of h start z m′ i w named l x end e =
-      let k = eqb-true (slotKind x) (leadKind sort) (sym (lead-kind names s starts row named l x end e sort b q) ∙ h) in
-      let t = tree-of names s starts row named l x end e sort k start i in
+  row-of h start z m′ i w named l ed x end e =
+      let k = eqb-true (slotKind x) (leadKind sort) (sym (lead-kind ed names s starts row named l x end e sort b q) ∙ h) in
+      let t = tree-of ed names s starts row named l x end e sort k start i in
       led-as row (sym (t .2 finds)) (w (t .0) end (t .1) .0)
 
   pub row-none : b ≡ false → length m ≡ 4096 → SlotMarked sort names finds row s starts m m
-  row-none h len named l x end e =
-      led-none row len (other-kind sort finds x (λ k. not-both _ (eq-eqb (slotKind x) (leadKind sort) k) (sym (lead-kind names s starts row named l x end e sort b q) ∙ h)))
+  row-none h len named l ed x end e =
+      led-none row len (other-kind sort finds x (λ k. not-both _ (eq-eqb (slotKind x) (leadKind sort) k) (sym (lead-kind ed names s starts row named l x end e sort b q) ∙ h)))
 
 -- the slots of an image
-pub slot-is : (names count : ℕ) (s starts : List ℕ) (i : ℕ) → i < count → (x : Slot) (end : ℕ) → read (slotAt names) s (getD starts i 0) ≡ done x end → slotsOf names count s starts i ≡ x
+pub slot-is : (ed : Edition) (names count : ℕ) (s starts : List ℕ) (i : ℕ) → i < count → (x : Slot) (end : ℕ) → read (slotAt ed names) s (getD starts i 0) ≡ done x end → slotsOf ed names count s starts i ≡ x
 unfolding slotsOf
-slot-is names count s starts i l x end e = rw (lt-ltb i count l, e)
+slot-is ed names count s starts i l x end e = rw (lt-ltb i count l, e)
 
-module _ (sort : Sort) (names count : ℕ) (finds s starts : List ℕ) where
+module _ (sort : Sort) (ed : Edition) (names count : ℕ) (finds s starts : List ℕ) where
   abbrev S : ℕ → Slot
-  S = slotsOf names count s starts
+  S = slotsOf ed names count s starts
 
   abbrev pub Rows : (before : List ℕ) → (i : ℕ) → (after : List ℕ) → Type 0
   Rows before i after = (i ≤ count) × Filled before (leads sort finds S) i after
@@ -95,13 +96,13 @@ module _ (sort : Sort) (names count : ℕ) (finds s starts : List ℕ) where
   pub rows-start : (m : List ℕ) → length m ≡ 4096 → Rows m 0 m
   rows-start m len = (omega arith, turns-start (λ a b. a) (leads sort finds S) m len)
 
-  module _ (p : Located names count s starts) where
+  module _ (p : Located ed names count s starts) where
     pub rows-on : (m₀ m m′ : List ℕ) (i : ℕ) → i < count → Rows m₀ i m → SlotMarked sort names finds i s starts m m′ → Rows m₀ (i + 1) m′
     unfolding leads
     rows-on m₀ m m′ i l r w =
         let q = p .reads i l in
-        let y = ap (slotLeads sort finds) (sym (slot-is names count s starts i l (q .0) (q .1) (q .2))) in
-        let g = grown-as (led-as i y (w (p .named) (omega (arith, p .room)) (q .0) (q .1) (q .2))) (λ a b u v. at-same a i (λ z. has b (slotLeads sort finds (S z)))) in
+        let y = ap (slotLeads sort finds) (sym (slot-is ed names count s starts i l (q .0) (q .1) (q .2))) in
+        let g = grown-as (led-as i y (w (p .named) (omega (arith, p .room)) ed (q .0) (q .1) (q .2))) (λ a b u v. at-same a i (λ z. has b (slotLeads sort finds (S z)))) in
         (omega arith, turns-on (λ a b. a) (leads sort finds S) m₀ i m m′ (r .1) g)
 
   pub rows-end : (m₀ m : List ℕ) (i : ℕ) → count ≤ i → Rows m₀ i m → Filled m₀ (leads sort finds S) count m

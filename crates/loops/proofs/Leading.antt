@@ -11,6 +11,7 @@ use borrow.Author.Tests.{eq-eqb, ne-eqb, eqb-true}
 use lib.Dec.{eqb}
 use Rattle.tree.specs.declared.Sort.{Sort}
 use Rattle.slot.specs.Slot.{Slot, empty, slotKind}
+use Rattle.slot.specs.declared.Edition.{Edition}
 use Rattle.view.specs.Part.{partAt}
 use Rattle.graph.specs.Ways.{Path, step, onto, has}
 use Rattle.graph.specs.Loops.{not-both}
@@ -55,15 +56,15 @@ module _ (sort : Sort) (slots : ℕ → Slot) where
     nothing-looped = is-not-looped sort finds slots count past (λ j r. no-path r)
 
 -- the slots of an image, one by one
-module _ (sort : Sort) (names count : ℕ) (s starts : List ℕ) (p : Located names count s starts) (i : ℕ) (l : i < count) (b : Bool) (q : b ≡ partLeads sort (partAt s starts i)) where
-  kind-at : b ≡ eqb (slotKind (slotsOf names count s starts i)) (leadKind sort)
+module _ (sort : Sort) (ed : Edition) (names count : ℕ) (s starts : List ℕ) (p : Located ed names count s starts) (i : ℕ) (l : i < count) (b : Bool) (q : b ≡ partLeads sort (partAt s starts i)) where
+  kind-at : b ≡ eqb (slotKind (slotsOf ed names count s starts i)) (leadKind sort)
   kind-at =
       let r = p .reads i l in
-      lead-kind names s starts i (p .named) (omega (arith, p .room)) (r .0) (r .1) (r .2) sort b q
-      ∙ ap (λ (x : Slot). eqb (slotKind x) (leadKind sort)) (sym (slot-is names count s starts i l (r .0) (r .1) (r .2)))
+      lead-kind ed names s starts i (p .named) (omega (arith, p .room)) (r .0) (r .1) (r .2) sort b q
+      ∙ ap (λ (x : Slot). eqb (slotKind x) (leadKind sort)) (sym (slot-is ed names count s starts i l (r .0) (r .1) (r .2)))
 
-  pub passed : noneLeads sort (slotsOf names count s starts) i ≡ true → b ≡ false → noneLeads sort (slotsOf names count s starts) (i + 1) ≡ true
-  passed e h = none-next sort (slotsOf names count s starts) i e (λ k. not-both _ (eq-eqb _ _ k) (sym kind-at ∙ h))
+  pub passed : noneLeads sort (slotsOf ed names count s starts) i ≡ true → b ≡ false → noneLeads sort (slotsOf ed names count s starts) (i + 1) ≡ true
+  passed e h = none-next sort (slotsOf ed names count s starts) i e (λ k. not-both _ (eq-eqb _ _ k) (sym kind-at ∙ h))
 
-  pub stopped : b ≡ true → false ≡ noneLeads sort (slotsOf names count s starts) count
-  stopped h = sym (one-leads sort (slotsOf names count s starts) i count l (eqb-true _ _ (sym kind-at ∙ h)))
+  pub stopped : b ≡ true → false ≡ noneLeads sort (slotsOf ed names count s starts) count
+  stopped h = sym (one-leads sort (slotsOf ed names count s starts) i count l (eqb-true _ _ (sym kind-at ∙ h)))

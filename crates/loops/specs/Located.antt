@@ -7,6 +7,7 @@ use lib.Dec.{ltb}
 use lib.ListN.{length, getD}
 use Rattle.number.specs.Grammar.{Outcome, done, refused, read}
 use Rattle.slot.specs.Slot.{Slot, empty, slotAt}
+use Rattle.slot.specs.declared.Edition.{Edition}
 use Rattle.view.specs.Inside.{nameCount}
 
 abbrev pub slotOr : Outcome Slot → Slot
@@ -14,12 +15,12 @@ slotOr (done x n) = x
 slotOr (refused r p) = empty
 
 -- the slots of an image, from where they start; past the last there is none
-unfoldable pub slotsOf : (names count : ℕ) → (s starts : List ℕ) → ℕ → Slot
-slotsOf names count s starts i = cond (ltb i count) (slotOr (read (slotAt names) s (getD starts i 0))) empty
+unfoldable pub slotsOf : Edition → (names count : ℕ) → (s starts : List ℕ) → ℕ → Slot
+slotsOf ed names count s starts i = cond (ltb i count) (slotOr (read (slotAt ed names) s (getD starts i 0))) empty
 
 -- a slot was read at each start, of as many as there are slots, in an image of so many names
-pub record Located (names count : ℕ) (s starts : List ℕ) : Type 0 where
+pub record Located (ed : Edition) (names count : ℕ) (s starts : List ℕ) : Type 0 where
   pub few : count ≤ 512
   pub room : length starts ≡ count
   pub named : nameCount s ≡ names
-  pub reads : (i : ℕ) → i < count → (x : Slot) × (end : ℕ) × (read (slotAt names) s (getD starts i 0) ≡ done x end)
+  pub reads : (i : ℕ) → i < count → (x : Slot) × (end : ℕ) × (read (slotAt ed names) s (getD starts i 0) ≡ done x end)

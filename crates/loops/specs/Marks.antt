@@ -11,6 +11,7 @@ use Rattle.tree.specs.TreeAt.{treeAt}
 use Rattle.tree.specs.declared.Sort.{Sort}
 use Rattle.tree.specs.declared.Sort.the-variants.{Resolved, Expression}
 use Rattle.slot.specs.Slot.{Slot, slotKind, slotAt}
+use Rattle.slot.specs.declared.Edition.{Edition}
 use Rattle.view.specs.Inside.{nameCount}
 use Rattle.view.specs.declared.Part.{Part}
 use Rattle.graph.specs.Ways.{Leads, has}
@@ -60,7 +61,7 @@ TreeMarked sort names levels finds row s at before after next =
 abbrev pub SlotMarked : Sort → (names : ℕ) → (finds : List ℕ) → (row : ℕ) → (s starts before after : List ℕ) → Type 0
 SlotMarked sort names finds row s starts before after =
     nameCount s ≡ names → row < length starts
-    → (x : Slot) (end : ℕ) → read (slotAt names) s (getD starts row 0) ≡ done x end → Led before row (slotLeads sort finds x) after
+    → (ed : Edition) (x : Slot) (end : ℕ) → read (slotAt ed names) s (getD starts row 0) ≡ done x end → Led before row (slotLeads sort finds x) after
 
 -- with what the first `count` numbers lead to
 abbrev pub Filled : (before : List ℕ) → Leads → (count : ℕ) → (after : List ℕ) → Type 0

@@ -8,6 +8,7 @@ use native.Mathlib.Decide.{decLt}
 use borrow.Author.Tests.{le-ltb}
 use Rattle.tree.specs.declared.Sort.{Sort}
 use Rattle.slot.specs.Slot.{Slot, empty}
+use Rattle.slot.specs.declared.Edition.{Edition}
 use Rattle.graph.specs.Ways.{Path, Ends, has}
 use Rattle.graph.specs.Loops.{not-both, at-lowest, at-none, is-lowest, all-end}
 use Rattle.graph.specs.declared.Lowest.{Lowest}
@@ -18,9 +19,9 @@ use Rattle.loops.specs.Located.{slotsOf}
 abbrev pub OnLoop : Sort → (finds : List ℕ) → (slots : ℕ → Slot) → ℕ → Type 0
 OnLoop sort finds slots i = Path (leads sort finds slots) i i
 
-pub slots-past : (names count : ℕ) (s starts : List ℕ) (i : ℕ) → count ≤ i → slotsOf names count s starts i ≡ empty
+pub slots-past : (ed : Edition) (names count : ℕ) (s starts : List ℕ) (i : ℕ) → count ≤ i → slotsOf ed names count s starts i ≡ empty
 unfolding slotsOf
-slots-past names count s starts i h = rw (le-ltb i count h)
+slots-past ed names count s starts i h = rw (le-ltb i count h)
 
 module _ (sort : Sort) (finds : List ℕ) (slots : ℕ → Slot) (count : ℕ) (past : (i : ℕ) → count ≤ i → slots i ≡ empty) where
   held : (i : ℕ) → (slots i ≡ empty → ⊥) → i < count

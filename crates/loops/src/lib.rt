@@ -9,6 +9,7 @@ ghost use mathlib.Core.List.{List};
 ghost use Prim.Native.Nat.{ℕ, _<_, _≤_};
 ghost use lib.ListN.{length};
 ghost use Rattle.tree.specs.Tree.{Leaf, leaf, leafKind, leafNumber};
+ghost use Rattle.slot.specs.declared.Edition.{Edition};
 ghost use Rattle.loops.specs.Leads.{treeSlots, leads, loopOf};
 ghost use Rattle.loops.specs.Located.{slotsOf, Located};
 ghost use Rattle.view.specs.Part.{partAt};
@@ -158,8 +159,8 @@ fn fill_rows(
     sort: Sort,
     rows: &mut [u64],
 )
-    requires { ⌜ (length (now rows) ≡ 4096) × Located names count (now image) (now starts) ⌝ }
-    ensures { λ _. ⌜ Filled (now (rows .entry)) (leads sort (now (finds .entry)) (slotsOf names count (now (image .entry)) (now (starts .entry)))) count (now (rows .exit)) ⌝ }
+    requires { ⌜ (length (now rows) ≡ 4096) × ((ed : Edition) × Located ed names count (now image) (now starts)) ⌝ }
+    ensures { λ _. ⌜ ((ed : Edition) → Located ed names count (now (image .entry)) (now (starts .entry)) → Filled (now (rows .entry)) (leads sort (now (finds .entry)) (slotsOf ed names count (now (image .entry)) (now (starts .entry)))) count (now (rows .exit))) ⌝ }
 {
     let mut i: usize = 0;
     while i < count {
@@ -170,8 +171,8 @@ fn fill_rows(
 
 // Is no slot of the kind that leads on? Then none is on a loop.
 pub fn none_leads(image: &[u8], starts: &[usize], count: usize, sort: Sort) -> bool
-    requires { ⌜ ((names : ℕ) × Located names count (now image) (now starts)) ⌝ }
-    ensures { λ r. ⌜ ((names : ℕ) → Located names count (now (image .entry)) (now (starts .entry)) → r ≡ noneLeads sort (slotsOf names count (now (image .entry)) (now (starts .entry))) count) ⌝ }
+    requires { ⌜ ((ed : Edition) × (names : ℕ) × Located ed names count (now image) (now starts)) ⌝ }
+    ensures { λ r. ⌜ ((ed : Edition) (names : ℕ) → Located ed names count (now (image .entry)) (now (starts .entry)) → r ≡ noneLeads sort (slotsOf ed names count (now (image .entry)) (now (starts .entry))) count) ⌝ }
 {
     let mut i: usize = 0;
     while i < count {
@@ -192,8 +193,8 @@ fn looped_in(
     finds: &[u16],
     sort: Sort,
 ) -> Lowest
-    requires { ⌜ Located names count (now image) (now starts) ⌝ }
-    ensures { λ r. ⌜ r ≡ loopOf sort (now (finds .entry)) (slotsOf names count (now (image .entry)) (now (starts .entry))) count ⌝ }
+    requires { ⌜ ((ed : Edition) × Located ed names count (now image) (now starts)) ⌝ }
+    ensures { λ r. ⌜ ((ed : Edition) → Located ed names count (now (image .entry)) (now (starts .entry)) → r ≡ loopOf sort (now (finds .entry)) (slotsOf ed names count (now (image .entry)) (now (starts .entry))) count) ⌝ }
 {
     let mut rows = [0u64; 4096];
     fill_rows(image, starts, count, names, finds, sort, &mut rows);
@@ -220,8 +221,8 @@ pub fn lowest_looped(
     finds: usize,
     sort: Sort,
 ) -> Lowest
-    requires { ⌜ (names ≤ 4096) × Located names count (now image) (now starts) ⌝ }
-    ensures { λ r. ⌜ r ≡ loopOf sort (findsAt names (now (image .entry)) finds) (slotsOf names count (now (image .entry)) (now (starts .entry))) count ⌝ }
+    requires { ⌜ (names ≤ 4096) × ((ed : Edition) × Located ed names count (now image) (now starts)) ⌝ }
+    ensures { λ r. ⌜ ((ed : Edition) → Located ed names count (now (image .entry)) (now (starts .entry)) → r ≡ loopOf sort (findsAt names (now (image .entry)) finds) (slotsOf ed names count (now (image .entry)) (now (starts .entry))) count) ⌝ }
 {
     let used = names_used(names, sort);
     let mut table = [0u16; 4096];

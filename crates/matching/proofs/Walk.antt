@@ -118,16 +118,16 @@ told-as : (names : ℕ) (s : List ℕ) (sort : Sort) (l : Leaf) {x y : Tree} {w 
 told-as names s sort l e f t = rw (e, ← f) t
 
 module _ (names : ℕ) (s finds places : List ℕ) (kind v : ℕ) (sort : Sort) where
-  pub here-type : sort ≡ Resolved → MeansHere names s finds places kind v sort Meaning.Itself
+  pub here-type : sort ≡ Resolved → (S : Schema) → MeansHere names S s finds places kind v sort Meaning.Itself
   unfolding ToldHere meant
-  here-type e h ps ts st l k n w = rw e
+  here-type e S h ps ts st l k n w = rw e
 
-  pub here-expression : sort ≡ Expression → (r : Meaning) → r ≡ leafMeaning names s finds places Scope.Types kind v → MeansHere names s finds places kind v sort r
+  pub here-expression : sort ≡ Expression → (r : Meaning) → r ≡ leafMeaning names s finds places Scope.Types kind v → (S : Schema) → MeansHere names S s finds places kind v sort r
   unfolding Stands KnownIn LookedUp meant meaningOf substitute Told ToldHere Whole
-  here-expression e r told h ps ts st l k n w =
-      rw e (told-here r (meaning-right names s finds places Scope.Types kind v r told h ps ts st l k n (subst (λ (x : Sort). LookedUp x places (leaf l)) e w)))
+  here-expression e r told S h ps ts st l k n w =
+      rw e (told-here r (meaning-right names s finds places Scope.Types kind v r told S h ps ts st l k n (subst (λ (x : Sort). LookedUp x places (leaf l)) e w)))
     where
-      told-here : (r : Meaning) → Told names s Scope.Types l (leafMeant (schemaOf s) ps ts l) r → ToldHere names s Expression l (leafMeant (schemaOf s) ps ts l) r
+      told-here : (r : Meaning) → Told names s Scope.Types l (leafMeant S ps ts l) r → ToldHere names s Expression l (leafMeant S ps ts l) r
       told-here Meaning.Itself t = t .0
       told-here (Meaning.Id i) t = t
       told-here (Meaning.Type q) t = (refl, t .0, t .1)
@@ -135,21 +135,21 @@ module _ (names : ℕ) (s finds places : List ℕ) (kind v : ℕ) (sort : Sort) 
 
 -- ## Generics
 
-module _ (names : ℕ) (s places : List ℕ) (a : Node) (q levels : ℕ) (ranked : Ranked (schemaOf s)) (w : Value) (told : RightName names levels s places q Scope.Types w) where
+module _ (names : ℕ) (S : Schema) (s places : List ℕ) (a : Node) (q levels : ℕ) (ranked : Ranked S) (w : Value) (told : RightName names levels S s places q Scope.Types w) where
   generic-value : (ps : List ℕ) (ts : List Tree) → Sound names s ps ts places → (v : ℕ) (u : Tree) (n : ℕ) → read (treeAt Expression names levels) s q ≡ done (generic v u) n
-      → w ≡ valueOf (meaningOf (schemaOf s) ps ts (generic v u))
+      → w ≡ valueOf (meaningOf S ps ts (generic v u))
   unfolding meaningOf Stands
-  generic-value ps ts st v u n e = told ps ts st (generic v u) n e 512 (within (schemaOf s) ranked (generic v u))
+  generic-value ps ts st v u n e = told ps ts st (generic v u) n e 512 (within S ranked (generic v u))
 
   pub generic-id : (i after : ℕ) (r : Matched) → w ≡ Value.Id i → Next.At after ≡ next (read (treeAt Expression names levels) s q) → r ≡ idAnswer a i after
-      → SameGeneric names s places a q levels r
+      → SameGeneric names S s places a q levels r
   generic-id i after r e f g ps ts st v u n h =
       (i, is-name _ i (sym (generic-value ps ts st v u n h) ∙ e), g ∙ ap (idAnswer a i) (at-same (sym f) (ap next h)))
 
-  pub generic-cut : (x y : ℕ) (r : Matched) → Next.Refused x y ≡ next (read (treeAt Expression names levels) s q) → SameGeneric names s places a q levels r
+  pub generic-cut : (x y : ℕ) (r : Matched) → Next.Refused x y ≡ next (read (treeAt Expression names levels) s q) → SameGeneric names S s places a q levels r
   generic-cut x y r f ps ts st v u n h = absurd (at-not (sym f) (ap next h))
 
-  pub generic-not : (r : Matched) → w ≡ Value.NotName → SameGeneric names s places a q levels r
+  pub generic-not : (r : Matched) → w ≡ Value.NotName → SameGeneric names S s places a q levels r
   unfolding meaningOf substitute valueOf leafValue
   generic-not r e ps ts st v u n h = absurd (no-value (sym e ∙ generic-value ps ts st v u n h))
     where
@@ -158,11 +158,11 @@ module _ (names : ℕ) (s places : List ℕ) (a : Node) (q levels : ℕ) (ranked
 
 -- ## The arms
 
-module _ (names : ℕ) (s places : List ℕ) (p q levels : ℕ) (sort : Sort) where
+module _ (names : ℕ) (S : Schema) (s places : List ℕ) (p q levels : ℕ) (sort : Sort) where
   some-level : {e : Tree} {n : ℕ} → read (treeAt sort names levels) s q ≡ done e n → levels ≡ 0 → ⊥
   some-level rq z = no-tree sort names s q levels z _ _ rq
 
-  pub compare-refused : (r : Matched) (x y : ℕ) → shape (read (headAt sort names) s q) ≡ Head.Refused x y → Compares names s places p q levels sort r
+  pub compare-refused : (r : Matched) (x y : ℕ) → shape (read (headAt sort names) s q) ≡ Head.Refused x y → Compares names S s places p q levels sort r
   compare-refused r x y g d t m rt ps ts st e n rq k = absurd (parts sort names s q levels (some-level rq) _ g e n rq)
 
   module _ (a : Node) (x : a ≡ nodeOf (shape (read (headAt Resolved names) s p))) where
@@ -184,21 +184,21 @@ module _ (names : ℕ) (s places : List ℕ) (p q levels : ℕ) (sort : Sort) wh
             (λ w. differ (λ f. w (name-same (sym z ∙ f))) (simp (eq-eqb (a .kind) 3 y, ne-eqb (a .number) i w)))
             (equal-or-not (a .number) i)
 
-    module _ (k g v b : ℕ) (f : shape (read (headAt sort names) s q) ≡ Head.Leaf k g v b) (finds : List ℕ) (holds : FindsHold s finds) (w : Meaning) (told : MeansHere names s finds places k v sort w) where
+    module _ (k g v b : ℕ) (f : shape (read (headAt sort names) s q) ≡ Head.Leaf k g v b) (finds : List ℕ) (holds : FindsHold S finds) (w : Meaning) (told : (S : Schema) → MeansHere names S s finds places k v sort w) where
       -- what is said of the leaf that stands there
       leaf-told : (o : Meaning) → w ≡ o → (ps : List ℕ) (ts : List Tree) → Sound names s ps ts places
           → (e : Tree) (n : ℕ) → read (treeAt sort names levels) s q ≡ done e n → LookedUp sort places e
-          → (l : Leaf) × (e ≡ leaf l) × (b ≡ n) × (nodeOf (Head.Leaf k g v b) ≡ leafNode l n) × ToldHere names s sort l (meant (schemaOf s) sort ps ts e) o
+          → (l : Leaf) × (e ≡ leaf l) × (b ≡ n) × (nodeOf (Head.Leaf k g v b) ≡ leafNode l n) × ToldHere names s sort l (meant S sort ps ts e) o
       leaf-told o y ps ts st e n rq kn =
           let c = parts sort names s q levels (some-level rq) _ f e n rq in (
             c .0,
             c .1,
             c .5,
             leaf-node (sym (c .2)) (sym (c .3)) (sym (c .4)) (c .5),
-            told-as names s sort (c .0) (ap (meant (schemaOf s) sort ps ts) (c .1)) y (told holds ps ts st (c .0) (c .2) (c .4) (known-as places sort (c .1) kn)),
+            told-as names s sort (c .0) (ap (meant S sort ps ts) (c .1)) y (told S holds ps ts st (c .0) (c .2) (c .4) (known-as places sort (c .1) kn)),
           )
 
-      pub leaf-itself : w ≡ Meaning.Itself → (node : Node) → node ≡ nodeOf (Head.Leaf k g v b) → (r : Matched) → SameLeaf names s p q a node r → Compares names s places p q levels sort r
+      pub leaf-itself : w ≡ Meaning.Itself → (node : Node) → node ≡ nodeOf (Head.Leaf k g v b) → (r : Matched) → SameLeaf names s p q a node r → Compares names S s places p q levels sort r
       unfolding ToldHere treeKind
       leaf-itself y node is r rl d t m rt ps ts st e n rq kn =
           let o = leaf-told Meaning.Itself y ps ts st e n rq kn in
@@ -213,44 +213,44 @@ module _ (names : ℕ) (s places : List ℕ) (p q levels : ℕ) (sort : Sort) wh
           (λ u. differ (λ i. u (kind-of names s p a x d t m rt ∙ ap treeKind (i ∙ z) ∙ sym kd)) (rl .kinds u))
           (equal-or-not (a .kind) (node .kind))
 
-      pub leaf-id : (i : ℕ) → w ≡ Meaning.Id i → (r : Matched) → r ≡ idAnswer a i b → Compares names s places p q levels sort r
+      pub leaf-id : (i : ℕ) → w ≡ Meaning.Id i → (r : Matched) → r ≡ idAnswer a i b → Compares names S s places p q levels sort r
       unfolding ToldHere
       leaf-id i y r u d t m rt ps ts st e n rq kn =
           let o = leaf-told (Meaning.Id i) y ps ts st e n rq kn in
           says-renamed (u ∙ ap (idAnswer a i) (o .2)) (says-map (id-says i n d t m rt) (λ c. c ∙ sym (o .4)) (λ c. c ∙ o .4))
 
-      pub leaf-type : (at : ℕ) → w ≡ Meaning.Type at → (r₀ r : Matched) → Compares names s places p at 32 Resolved r₀ → r ≡ endingAt r₀ b
-          → Compares names s places p q levels sort r
+      pub leaf-type : (at : ℕ) → w ≡ Meaning.Type at → (r₀ r : Matched) → Compares names S s places p at 32 Resolved r₀ → r ≡ endingAt r₀ b
+          → Compares names S s places p q levels sort r
       unfolding ToldHere LookedUp meant
       leaf-type at y r₀ r i u d t m rt ps ts st e n rq kn =
           let o = leaf-told (Meaning.Type at) y ps ts st e n rq kn in
           let z = o .4 in
           says-renamed (u ∙ ap (endingAt r₀) (o .2)) (says-ending n (i d t m rt ps ts st _ (z .1) (z .2) tt))
 
-      pub leaf-none : w ≡ Meaning.NotName → (r : Matched) → Compares names s places p q levels sort r
+      pub leaf-none : w ≡ Meaning.NotName → (r : Matched) → Compares names S s places p q levels sort r
       unfolding ToldHere
       leaf-none y r d t m rt ps ts st e n rq kn = absurd (leaf-told Meaning.NotName y ps ts st e n rq kn .4)
 
     module _ (v b : ℕ) (g : shape (read (headAt sort names) s q) ≡ Head.Generic v b) where
-      pub compare-generic : (r : Matched) → SameGeneric names s places a q levels r → Compares names s places p q levels sort r
+      pub compare-generic : (r : Matched) → SameGeneric names S s places a q levels r → Compares names S s places p q levels sort r
       unfolding meant
       compare-generic r i d t m rt ps ts st e n rq kn =
           let o = parts sort names s q levels (some-level rq) _ g e n rq in
           go sort rq (o .0) (o .1)
         where
-          go : (sort : Sort) → read (treeAt sort names levels) s q ≡ done e n → (u : Tree) → e ≡ generic v u → Says r t (meant (schemaOf s) sort ps ts e) m n
+          go : (sort : Sort) → read (treeAt sort names levels) s q ≡ done e n → (u : Tree) → e ≡ generic v u → Says r t (meant S sort ps ts e) m n
           go Resolved rd u f = absurd (no-generic names levels s q v u e n rd f)
           go Expression rd u f =
               let c = i ps ts st v u n (rd ∙ ap (λ (y : Tree). done y n) f) in
-              let z : meaningOf (schemaOf s) ps ts e ≡ leaf (named (c .0)) = ap (meaningOf (schemaOf s) ps ts) f ∙ c .1 in
+              let z : meaningOf S ps ts e ≡ leaf (named (c .0)) = ap (meaningOf S ps ts) f ∙ c .1 in
               says-renamed (c .2) (says-map (id-says (c .0) n d t m rt) (λ j. j ∙ sym z) (λ j. j ∙ z))
 
     module _ (k b : ℕ) (g : shape (read (headAt sort names) s q) ≡ Head.One k b) where
-      pub one-same : a .kind ≡ k → (r : Matched) → Compares names s places (a .next) b (levels - 1) sort r → Compares names s places p q levels sort r
+      pub one-same : a .kind ≡ k → (r : Matched) → Compares names S s places (a .next) b (levels - 1) sort r → Compares names S s places p q levels sort r
       one-same y r i d t m rt ps ts st e n rq kn =
           let o = parts sort names s q levels (some-level rq) _ g e n rq in
           let c = in-wrap names s p a x d t m rt (o .0) (y ∙ sym (o .3)) in
-          let z = meant-wrap (schemaOf s) sort ps ts (o .0) (o .1) (o .2) in
+          let z = meant-wrap S sort ps ts (o .0) (o .1) (o .2) in
           says-map (i (d - 1) (c .0) m (c .2) ps ts st (o .1) n (o .4) (known-wrap places sort (o .0) (o .1) (o .2) kn)) (wraps (c .1) z) (unwraps (c .1) z)
         where
           wraps : {t u T X : Tree} {w : Wrap} → T ≡ wrap w t → X ≡ wrap w u → t ≡ u → T ≡ X
@@ -259,39 +259,39 @@ module _ (names : ℕ) (s places : List ℕ) (p q levels : ℕ) (sort : Sort) wh
           unwraps : {t u T X : Tree} {w : Wrap} → T ≡ wrap w t → X ≡ wrap w u → T ≡ X → t ≡ u
           unwraps a b c = cc
 
-      pub one-differs : (a .kind ≡ k → ⊥) → Compares names s places p q levels sort Matched.Differs
+      pub one-differs : (a .kind ≡ k → ⊥) → Compares names S s places p q levels sort Matched.Differs
       unfolding treeKind
       one-differs y d t m rt ps ts st e n rq kn =
           let o = parts sort names s q levels (some-level rq) _ g e n rq in
-          let z = meant-wrap (schemaOf s) sort ps ts (o .0) (o .1) (o .2) in
+          let z = meant-wrap S sort ps ts (o .0) (o .1) (o .2) in
           differ (λ f. y (kind-of names s p a x d t m rt ∙ ap treeKind (f ∙ z) ∙ o .3)) refl
 
     module _ (k b : ℕ) (g : shape (read (headAt sort names) s q) ≡ Head.Two k b) where
-      pub two-differs : (a .kind ≡ k → ⊥) → Compares names s places p q levels sort Matched.Differs
+      pub two-differs : (a .kind ≡ k → ⊥) → Compares names S s places p q levels sort Matched.Differs
       unfolding treeKind
       two-differs y d t m rt ps ts st e n rq kn =
           let o = parts sort names s q levels (some-level rq) _ g e n rq in
-          let z = meant-pair (schemaOf s) sort ps ts (o .0) (o .1) (o .2) (o .4) in
+          let z = meant-pair S sort ps ts (o .0) (o .1) (o .2) (o .4) in
           differ (λ f. y (kind-of names s p a x d t m rt ∙ ap treeKind (f ∙ z) ∙ o .5)) refl
 
-      module _ (y : a .kind ≡ k) (first : Matched) (i : Compares names s places (a .next) b (levels - 1) sort first) where
-        pub two-first : first ≡ Matched.Differs → Compares names s places p q levels sort Matched.Differs
+      module _ (y : a .kind ≡ k) (first : Matched) (i : Compares names S s places (a .next) b (levels - 1) sort first) where
+        pub two-first : first ≡ Matched.Differs → Compares names S s places p q levels sort Matched.Differs
         two-first v d t m rt ps ts st e n rq kn =
             let o = parts sort names s q levels (some-level rq) _ g e n rq in
             let c = in-pair names s p a x d t m rt (o .0) (y ∙ sym (o .5)) in
-            let z = meant-pair (schemaOf s) sort ps ts (o .0) (o .1) (o .2) (o .4) in
+            let z = meant-pair S sort ps ts (o .0) (o .1) (o .2) (o .4) in
             let u = known-pair places sort (o .0) (o .1) (o .2) (o .4) kn in
             differ (λ f. says-not (i (d - 1) (c .0) (c .2) (c .4) ps ts st (o .1) (o .3) (o .6) (u .0)) v (firsts (c .3) z f)) refl
           where
             firsts : {t u t′ u′ T X : Tree} {w : Pair} → T ≡ pair w t u → X ≡ pair w t′ u′ → T ≡ X → t ≡ t′
             firsts a b c = cc
 
-        pub two-second : (m₁ n₁ : ℕ) → first ≡ Matched.Same m₁ n₁ → (r : Matched) → Compares names s places m₁ n₁ (levels - 1) sort r
-            → Compares names s places p q levels sort r
+        pub two-second : (m₁ n₁ : ℕ) → first ≡ Matched.Same m₁ n₁ → (r : Matched) → Compares names S s places m₁ n₁ (levels - 1) sort r
+            → Compares names S s places p q levels sort r
         two-second m₁ n₁ v r j d t m rt ps ts st e n rq kn =
             let o = parts sort names s q levels (some-level rq) _ g e n rq in
             let c = in-pair names s p a x d t m rt (o .0) (y ∙ sym (o .5)) in
-            let z = meant-pair (schemaOf s) sort ps ts (o .0) (o .1) (o .2) (o .4) in
+            let z = meant-pair S sort ps ts (o .0) (o .1) (o .2) (o .4) in
             let u = known-pair places sort (o .0) (o .1) (o .2) (o .4) kn in
             let f = says-same (i (d - 1) (c .0) (c .2) (c .4) ps ts st (o .1) (o .3) (o .6) (u .0)) v in
             says-map
@@ -305,30 +305,30 @@ module _ (names : ℕ) (s places : List ℕ) (p q levels : ℕ) (sort : Sort) wh
             seconds a b c = cc
 
     module _ (b : ℕ) (g : shape (read (headAt sort names) s q) ≡ Head.Sized b) where
-      pub sized-differs : (a .kind ≡ 6 → ⊥) → Compares names s places p q levels sort Matched.Differs
+      pub sized-differs : (a .kind ≡ 6 → ⊥) → Compares names S s places p q levels sort Matched.Differs
       unfolding treeKind
       sized-differs y d t m rt ps ts st e n rq kn =
           let o = parts sort names s q levels (some-level rq) _ g e n rq in
-          let z = meant-array (schemaOf s) sort ps ts (o .0) (o .2) (o .3) in
+          let z = meant-array S sort ps ts (o .0) (o .2) (o .3) in
           differ (λ f. y (kind-of names s p a x d t m rt ∙ ap treeKind (f ∙ z))) refl
 
-      module _ (y : a .kind ≡ 6) (first : Matched) (i : Compares names s places (a .next) b (levels - 1) sort first) where
-        pub sized-first : first ≡ Matched.Differs → Compares names s places p q levels sort Matched.Differs
+      module _ (y : a .kind ≡ 6) (first : Matched) (i : Compares names S s places (a .next) b (levels - 1) sort first) where
+        pub sized-first : first ≡ Matched.Differs → Compares names S s places p q levels sort Matched.Differs
         sized-first v d t m rt ps ts st e n rq kn =
             let o = parts sort names s q levels (some-level rq) _ g e n rq in
             let c = in-array names s p a x d t m rt y in
-            let z = meant-array (schemaOf s) sort ps ts (o .0) (o .2) (o .3) in
+            let z = meant-array S sort ps ts (o .0) (o .2) (o .3) in
             let u = known-array places sort (o .0) (o .2) (o .3) kn in
             differ (λ f. says-not (i (d - 1) (c .0) (c .2) (c .4) ps ts st (o .0) (o .1) (o .4) u) v (elements (c .3) z f)) refl
           where
             elements : {t u T X : Tree} {k l : ℕ} → T ≡ fixedArray t k → X ≡ fixedArray u l → T ≡ X → t ≡ u
             elements a b c = cc
 
-        pub sized-second : (m₁ n₁ : ℕ) → first ≡ Matched.Same m₁ n₁ → (r : Matched) → SameSize s m₁ n₁ r → Compares names s places p q levels sort r
+        pub sized-second : (m₁ n₁ : ℕ) → first ≡ Matched.Same m₁ n₁ → (r : Matched) → SameSize s m₁ n₁ r → Compares names S s places p q levels sort r
         sized-second m₁ n₁ v r j d t m rt ps ts st e n rq kn =
             let o = parts sort names s q levels (some-level rq) _ g e n rq in
             let c = in-array names s p a x d t m rt y in
-            let z = meant-array (schemaOf s) sort ps ts (o .0) (o .2) (o .3) in
+            let z = meant-array S sort ps ts (o .0) (o .2) (o .3) in
             let u = known-array places sort (o .0) (o .2) (o .3) kn in
             let f = says-same (i (d - 1) (c .0) (c .2) (c .4) ps ts st (o .0) (o .1) (o .4) u) v in
             says-map (j (c .1) m (ap (below (2 ^ 64) s) (f .1) ∙ c .5) (o .2) n (ap (below (2 ^ 64) s) (f .2) ∙ o .5))
@@ -347,11 +347,11 @@ asked-level j z = no-tree _ _ _ _ _ z (j .tree) (j .end) (j .reads)
 
 module _ (s starts : List ℕ) (f : Frame) (finds places : List ℕ) (p q levels : ℕ) (sort : Sort)
     (a : Node) (x : a ≡ nodeOf (shape (read (headAt Resolved (f .names)) s p))) (j : Asked s starts f finds places p q levels sort) where
-  pub asked-type : (k g v b : ℕ) → shape (read (headAt sort (f .names)) s q) ≡ Head.Leaf k g v b → (w : Meaning) → MeansHere (f .names) s finds places k v sort w
+  pub asked-type : (k g v b : ℕ) → shape (read (headAt sort (f .names)) s q) ≡ Head.Leaf k g v b → (w : Meaning) → ((S : Schema) → MeansHere (f .names) S s finds places k v sort w)
       → (at : ℕ) → w ≡ Meaning.Type at → Asked s starts f finds places p at 32 Resolved × (sort ≡ Expression)
   unfolding ToldHere LookedUp
   asked-type k g v b e w told at y =
-      let z = leaf-told (f .names) s places p q levels sort a x k g v b e finds (j .ready .holds) w told (Meaning.Type at) y (j .parameters) (j .arguments) (j .sound) (j .tree) (j .end) (j .reads) (j .known) .4 in (
+      let z = leaf-told (f .names) (schemaOf (f .edition) s) s places p q levels sort a x k g v b e finds (j .ready .holds) w told (Meaning.Type at) y (j .parameters) (j .arguments) (j .sound) (j .tree) (j .end) (j .reads) (j .known) .4 in (
         record {
           ready = j .ready;
           few = omega arith;
@@ -423,7 +423,7 @@ module _ (s starts : List ℕ) (f : Frame) (finds places : List ℕ) (p q levels
         let c = in-pair (f .names) s p a x (j .depth) (j .type) (j .typeEnd) (j .typeRead) (o .0) (y ∙ sym (o .5)) in
         child (a .next) b (c .0) (c .2) (c .4) (o .1) (o .3) (o .6) (known-pair places sort (o .0) (o .1) (o .2) (o .4) (j .known) .0)
 
-    pub asked-second : (first : Matched) → Compares (f .names) s places (a .next) b (levels - 1) sort first → (m n : ℕ) → first ≡ Matched.Same m n
+    pub asked-second : (first : Matched) → Compares (f .names) (schemaOf (f .edition) s) s places (a .next) b (levels - 1) sort first → (m n : ℕ) → first ≡ Matched.Same m n
         → Asked s starts f finds places m n (levels - 1) sort
     asked-second first i m n v =
         let o = parts sort (f .names) s q levels (asked-level j) _ g (j .tree) (j .end) (j .reads) in

@@ -11,7 +11,6 @@ use Rattle.tree.specs.declared.Sort.the-variants.{Resolved, Expression}
 use Rattle.slot.specs.Field.{typeAt}
 use Rattle.image.specs.Schema.{Schema}
 use Rattle.image.specs.declared.Frame.{Frame}
-use Rattle.reader.specs.Reading.{schemaOf}
 use Rattle.findings.specs.Meaning.{meaningOf}
 use Rattle.meanings.specs.Places.{AtNames, Known, Sound}
 use Rattle.meanings.specs.Scopes.{FindsHold, Ready}
@@ -37,18 +36,18 @@ ToldHere names s sort l x (Meaning.Id i) = x ≡ leaf (named i)
 ToldHere names s sort l x (Meaning.Type q) = (sort ≡ Expression) × (end : ℕ) × (read (typeAt names) s q ≡ done x end)
 ToldHere names s sort l x Meaning.NotName = ⊥
 
-abbrev pub MeansHere : (names : ℕ) → (s finds places : List ℕ) → (kind v : ℕ) → Sort → Meaning → Type 0
-MeansHere names s finds places kind v sort r =
-    FindsHold s finds → (ps : List ℕ) (ts : List Tree) → Sound names s ps ts places
+abbrev pub MeansHere : (names : ℕ) → Schema → (s finds places : List ℕ) → (kind v : ℕ) → Sort → Meaning → Type 0
+MeansHere names S s finds places kind v sort r =
+    FindsHold S finds → (ps : List ℕ) (ts : List Tree) → Sound names s ps ts places
     → (l : Leaf) → leafKind l ≡ kind → leafNumber l ≡ v → LookedUp sort places (leaf l)
-    → ToldHere names s sort l (meant (schemaOf s) sort ps ts (leaf l)) r
+    → ToldHere names s sort l (meant S sort ps ts (leaf l)) r
 
 -- a head, and the slot that a generic means
-abbrev pub SameGeneric : (names : ℕ) → (s places : List ℕ) → Node → (q levels : ℕ) → Matched → Type 0
-SameGeneric names s places a q levels r =
+abbrev pub SameGeneric : (names : ℕ) → Schema → (s places : List ℕ) → Node → (q levels : ℕ) → Matched → Type 0
+SameGeneric names S s places a q levels r =
     (ps : List ℕ) (ts : List Tree) → Sound names s ps ts places
     → (v : ℕ) (u : Tree) (n : ℕ) → read (treeAt Expression names levels) s q ≡ done (generic v u) n
-    → (i : ℕ) × (meaningOf (schemaOf s) ps ts (generic v u) ≡ leaf (named i)) × (r ≡ idAnswer a i n)
+    → (i : ℕ) × (meaningOf S ps ts (generic v u) ≡ leaf (named i)) × (r ≡ idAnswer a i n)
 
 -- a type stands at p, and at q another or an expression whose names were looked up
 pub record Asked (s starts : List ℕ) (f : Frame) (finds places : List ℕ) (p q levels : ℕ) (sort : Sort) : Type 0 where
@@ -67,9 +66,9 @@ pub record Asked (s starts : List ℕ) (f : Frame) (finds places : List ℕ) (p 
   pub known : LookedUp sort places tree
 
 -- whether the one is what the other means, with the positions after them
-abbrev pub Compares : (names : ℕ) → (s places : List ℕ) → (p q levels : ℕ) → Sort → Matched → Type 0
-Compares names s places p q levels sort r =
+abbrev pub Compares : (names : ℕ) → Schema → (s places : List ℕ) → (p q levels : ℕ) → Sort → Matched → Type 0
+Compares names S s places p q levels sort r =
     (d : ℕ) (t : Tree) (m : ℕ) → read (treeAt Resolved names d) s p ≡ done t m
     → (ps : List ℕ) (ts : List Tree) → Sound names s ps ts places
     → (e : Tree) (n : ℕ) → read (treeAt sort names levels) s q ≡ done e n → LookedUp sort places e
-    → Says r t (meant (schemaOf s) sort ps ts e) m n
+    → Says r t (meant S sort ps ts e) m n

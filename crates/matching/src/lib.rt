@@ -8,6 +8,8 @@ use number::Ranged;
 use tree::Head;
 use tree::Sort;
 ghost use mathlib.Core.Path.{_≡_};
+ghost use Rattle.image.specs.Schema.{Schema};
+ghost use Rattle.reader.specs.Reading.{schemaOf};
 ghost use Rattle.meanings.specs.Scopes.{Asked as NameAsked};
 ghost use Rattle.meanings.specs.declared.Scope.{Scope};
 ghost use Rattle.matching.specs.Comparing.{MeansHere, SameGeneric, Asked, Compares};
@@ -193,7 +195,7 @@ fn meaning_here(
     v: u64,
     sort: Sort,
 ) -> Meaning
-    ensures { λ r. ⌜ MeansHere names (now (image .entry)) (now (finds .entry)) (now (places .entry)) kind v sort r ⌝ }
+    ensures { λ r. ⌜ ((S : Schema) → MeansHere names S (now (image .entry)) (now (finds .entry)) (now (places .entry)) kind v sort r) ⌝ }
 {
     match sort {
         Sort::Resolved => Meaning::Itself,
@@ -215,7 +217,7 @@ fn same_generic(
     levels: usize,
 ) -> Matched
     requires { ⌜ NameAsked (now image) (now starts) frame (now finds) (now places) q levels Scope.Types ⌝ }
-    ensures { λ r. ⌜ SameGeneric (frame .names) (now (image .entry)) (now (places .entry)) a q levels r ⌝ }
+    ensures { λ r. ⌜ SameGeneric (frame .names) (schemaOf (frame .edition) (now (image .entry))) (now (image .entry)) (now (places .entry)) a q levels r ⌝ }
 {
     match meanings::name_of(image, starts, frame, finds, places, q, levels, Scope::Types) {
         Value::Id(id) => match tree::read_tree(image, q, levels, Sort::Expression, frame.names) {
@@ -240,7 +242,7 @@ pub fn types_compatible(
     sort: Sort,
 ) -> Matched
     requires { ⌜ Asked (now image) (now starts) frame (now finds) (now places) p q levels sort ⌝ }
-    ensures { λ r. ⌜ Compares (frame .names) (now (image .entry)) (now (places .entry)) p q levels sort r ⌝ }
+    ensures { λ r. ⌜ Compares (frame .names) (schemaOf (frame .edition) (now (image .entry))) (now (image .entry)) (now (places .entry)) p q levels sort r ⌝ }
 {
     let names = frame.names;
     let a = node_of(tree::read_head(image, p, Sort::Resolved, names));

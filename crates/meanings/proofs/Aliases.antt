@@ -13,7 +13,8 @@ use Rattle.number.proofs.Reading.{read-done, given}
 use Rattle.slot.specs.Field.{expressionAt}
 use Rattle.slot.specs.Slot.{Slot, empty, message, enum, flags, union, newtype, config, Alias, aliasAt, alias, trait, impl, slotKind, made, slotBodyAt}
 use Rattle.slot.proofs.Whole.{made-of}
-use Rattle.image.specs.Schema.{slotOf}
+use Rattle.slot.specs.declared.Edition.{Edition}
+use Rattle.image.specs.Schema.{Schema, slotOf}
 use Rattle.image.specs.declared.Frame.{Frame}
 use Rattle.reader.specs.Reading.{isEmpty, schemaOf}
 use Rattle.view.specs.Part.{partAt}
@@ -54,9 +55,9 @@ record Held (names : ℕ) (s : List ℕ) (x : Slot) (body : ℕ) : Type 0 where
   pub parametersRead : read (counted (number name names)) s body ≡ done (held .parameters) middle
   pub targetRead : read (expressionAt names) s middle ≡ done (held .target) end
 
-holds : (names : ℕ) (s : List ℕ) (x : Slot) (kind body end : ℕ) → read (slotBodyAt names kind) s body ≡ done x end → kind ≡ 7 → Held names s x body
+holds : (ed : Edition) (names : ℕ) (s : List ℕ) (x : Slot) (kind body end : ℕ) → read (slotBodyAt ed names kind) s body ≡ done x end → kind ≡ 7 → Held names s x body
 unfolding slotBodyAt aliasAt read
-holds names s x kind body end e k =
+holds ed names s x kind body end e k =
     let r : read (made alias (aliasAt names)) s body ≡ done x end = rw k at e in
     let m = made-of s alias (aliasAt names) body x end r in
     let y = read-done (counted (number name names)) _ s body (m .held) end (m .reads) in
@@ -72,15 +73,15 @@ holds names s x kind body end e k =
     }
 
 module _ (s starts : List ℕ) (f : Frame) (finds : List ℕ) (ready : Ready s starts f finds) (n found : ℕ) (e : found ≡ getD finds n 0) where
-  found-is : found ≡ getD (schemaOf s .finds) n 0
+  found-is : found ≡ getD (schemaOf (f .edition) s .finds) n 0
   found-is = e ∙ ready .holds .entry n
 
-  pub alias-none : found ≡ 0 → RightAlias (f .names) s n AliasAt.Nothing
+  pub alias-none : found ≡ 0 → RightAlias (f .names) (schemaOf (f .edition) s) s n AliasAt.Nothing
   unfolding RightAlias
   alias-none z g = rw (sym found-is ∙ z)
 
   module _ (z : found ≡ 0 → ⊥) where
-    slot-is : getD (schemaOf s .finds) n 0 ≡ suc (found - 1)
+    slot-is : getD (schemaOf (f .edition) s .finds) n 0 ≡ suc (found - 1)
     slot-is = sym found-is ∙ one-less found z
 
     there : found - 1 < f .slots
@@ -89,29 +90,29 @@ module _ (s starts : List ℕ) (f : Frame) (finds : List ℕ) (ready : Ready s s
         go : Dec (found - 1 < f .slots) → found - 1 < f .slots
         go (yes l) = l
         go (no l) =
-            absurd (not-empty (ready .promise .found n (found - 1) slot-is) (slots-past (schemaOf s) (found - 1) (omega (arith, ready .promise .count))))
+            absurd (not-empty (ready .promise .found n (found - 1) slot-is) (slots-past (schemaOf (f .edition) s) (found - 1) (omega (arith, ready .promise .count))))
 
-    pub alias-missing : Part.Missing ≡ partAt s starts (found - 1) → (o : AliasAt) → RightAlias (f .names) s n o
+    pub alias-missing : Part.Missing ≡ partAt s starts (found - 1) → (o : AliasAt) → RightAlias (f .names) (schemaOf (f .edition) s) s n o
     alias-missing p o = absurd (not-missing s starts f (ready .promise) (found - 1) there (sym p))
 
     module _ (kind body : ℕ) (p : Part.At kind body ≡ partAt s starts (found - 1)) where
-      behind : Behind (f .names) s (slotOf (schemaOf s) (found - 1)) kind body
+      behind : Behind (f .edition) (f .names) s (slotOf (schemaOf (f .edition) s) (found - 1)) kind body
       behind = part-behind s starts f (ready .promise) (found - 1) there kind body (sym p)
 
-      pub alias-other : (kind ≡ 7 → ⊥) → RightAlias (f .names) s n AliasAt.Nothing
+      pub alias-other : (kind ≡ 7 → ⊥) → RightAlias (f .names) (schemaOf (f .edition) s) s n AliasAt.Nothing
       unfolding RightAlias
-      alias-other h g = rw slot-is (no-alias (slotOf (schemaOf s) (found - 1)) (λ q. h (sym (behind .kindIs) ∙ q)) g)
+      alias-other h g = rw slot-is (no-alias (slotOf (schemaOf (f .edition) s) (found - 1)) (λ q. h (sym (behind .kindIs) ∙ q)) g)
 
       module _ (k : kind ≡ 7) where
-        parts-of : Held (f .names) s (slotOf (schemaOf s) (found - 1)) body
-        parts-of = let b = behind in holds (f .names) s _ kind body (b .end) (b .reads) k
+        parts-of : Held (f .names) s (slotOf (schemaOf (f .edition) s) (found - 1)) body
+        parts-of = let b = behind in holds (f .edition) (f .names) s _ kind body (b .end) (b .reads) k
 
         module _ (r : Next) (c : (role : Role) → r ≡ follow (Next.At body) (λ q. next (read (counted (number role (f .names))) s q))) where
           reached : r ≡ Next.At (parts-of .middle)
           unfolding follow
           reached = c name ∙ ap next (parts-of .parametersRead)
 
-          pub alias-at : (target : ℕ) → r ≡ Next.At target → RightAlias (f .names) s n (AliasAt.At body target)
+          pub alias-at : (target : ℕ) → r ≡ Next.At target → RightAlias (f .names) (schemaOf (f .edition) s) s n (AliasAt.At body target)
           unfolding RightAlias
           alias-at target q =
               let t = parts-of in (
@@ -125,8 +126,8 @@ module _ (s starts : List ℕ) (f : Frame) (finds : List ℕ) (ready : Ready s s
                 at-place (expressionAt (f .names)) s (t .targetRead) (at-same q reached),
               )
 
-          pub alias-cut : (x y : ℕ) → r ≡ Next.Refused x y → (o : AliasAt) → RightAlias (f .names) s n o
+          pub alias-cut : (x y : ℕ) → r ≡ Next.Refused x y → (o : AliasAt) → RightAlias (f .names) (schemaOf (f .edition) s) s n o
           alias-cut x y q o = absurd (at-not q reached)
 
-pub alias-told : (names : ℕ) (s : List ℕ) (n : ℕ) {r o : AliasAt} → r ≡ o → RightAlias names s n r → RightAlias names s n o
-alias-told names s n e h = rw (← e) h
+pub alias-told : (names : ℕ) (S : Schema) (s : List ℕ) (n : ℕ) {r o : AliasAt} → r ≡ o → RightAlias names S s n r → RightAlias names S s n o
+alias-told names S s n e h = rw (← e) h

@@ -57,11 +57,11 @@ pub slots-past : (S : Schema) (i : ℕ) → length (S .slots) ≤ i → slotOf S
 unfolding slotOf
 slots-past S i h = List·getD-eq-default (S .slots) empty h
 
-pub alias-ranked : (s starts : List ℕ) (f : Frame) → Promise s starts f → Ranked (schemaOf s)
+pub alias-ranked : (s starts : List ℕ) (f : Frame) → Promise s starts f → Ranked (schemaOf (f .edition) s)
 alias-ranked s starts f promise =
-    let past : (i : ℕ) → f .slots ≤ i → slotOf (schemaOf s) i ≡ empty = λ i h. slots-past (schemaOf s) i (omega (arith, promise .count)) in
-    let e = is-not-looped Expression (schemaOf s .finds) (slotOf (schemaOf s)) (f .slots) past (promise .aliases) in
+    let past : (i : ℕ) → f .slots ≤ i → slotOf (schemaOf (f .edition) s) i ≡ empty = λ i h. slots-past (schemaOf (f .edition) s) i (omega (arith, promise .count)) in
+    let e = is-not-looped Expression (schemaOf (f .edition) s .finds) (slotOf (schemaOf (f .edition) s)) (f .slots) past (promise .aliases) in
     record {
       ranked = λ i.
-          omega (arith, height-below (schemaOf s) 513 512 i (aliases-end (schemaOf s .finds) (slotOf (schemaOf s)) (f .slots) past (promise .few) e i));
+          omega (arith, height-below (schemaOf (f .edition) s) 513 512 i (aliases-end (schemaOf (f .edition) s .finds) (slotOf (schemaOf (f .edition) s)) (f .slots) past (promise .few) e i));
     }

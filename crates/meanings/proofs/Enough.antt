@@ -74,8 +74,8 @@ module _ (S : Schema) (ranked : Ranked S) where
   same (suc c) d = tree-same (suc c) d (λ c′ d′ x y. renamed c c′ d′ (omega arith) (same c d′))
 
 -- in an accepted image the limit of a meaning is enough
-pub enough : (s starts : List ℕ) (f : Frame) → Promise s starts f → (ps : List ℕ) (ts : List Tree) (e : Tree) (chain : ℕ) → rankOf (schemaOf s) e ≤ chain
-    → substitute (schemaOf s) (applied (schemaOf s) chain) ps ts e ≡ meaningOf (schemaOf s) ps ts e
+pub enough : (s starts : List ℕ) (f : Frame) → Promise s starts f → (ps : List ℕ) (ts : List Tree) (e : Tree) (chain : ℕ) → rankOf (schemaOf (f .edition) s) e ≤ chain
+    → substitute (schemaOf (f .edition) s) (applied (schemaOf (f .edition) s) chain) ps ts e ≡ meaningOf (schemaOf (f .edition) s) ps ts e
 unfolding meaningOf
 enough s starts f promise ps ts e chain l =
-    let r = alias-ranked s starts f promise in same (schemaOf s) r chain 512 ps ts e l (within (schemaOf s) r e)
+    let r = alias-ranked s starts f promise in same (schemaOf (f .edition) s) r chain 512 ps ts e l (within (schemaOf (f .edition) s) r e)

@@ -16,7 +16,6 @@ use Rattle.tree.specs.declared.Sort.the-variants.{Resolved}
 use Rattle.tree.specs.declared.Head.{Head}
 use Rattle.tree.proofs.Shapes.{parts}
 use Rattle.image.specs.Schema.{Schema}
-use Rattle.reader.specs.Reading.{schemaOf}
 use Rattle.findings.specs.Meaning.{idFound, resolved, argumentOf, leafValue, valueOf, leafMeant}
 use Rattle.findings.specs.declared.Value.{Value}
 use Rattle.slot.specs.Field.{typeAt}
@@ -42,14 +41,14 @@ Told names s scope l x Meaning.NotName = (Whole scope → ⊥) × (valueOf x ≡
 -- what an answer on a plain name says, on a leaf, and on a type
 abbrev pub RightParameter : (names : ℕ) → (s finds places : List ℕ) → Scope → (n : ℕ) → Meaning → Type 0
 RightParameter names s finds places scope n r =
-    FindsHold s finds → (ps : List ℕ) (ts : List Tree) → Stands names s places scope ps ts → KnownIn scope places (leaf (named n))
-    → Told names s scope (named n) (leafMeant (schemaOf s) ps ts (named n)) r
+    (S : Schema) → FindsHold S finds → (ps : List ℕ) (ts : List Tree) → Stands names s places scope ps ts → KnownIn scope places (leaf (named n))
+    → Told names s scope (named n) (leafMeant S ps ts (named n)) r
 
 abbrev pub RightMeaning : (names : ℕ) → (s finds places : List ℕ) → Scope → (kind v : ℕ) → Meaning → Type 0
 RightMeaning names s finds places scope kind v r =
-    FindsHold s finds → (ps : List ℕ) (ts : List Tree) → Stands names s places scope ps ts
+    (S : Schema) → FindsHold S finds → (ps : List ℕ) (ts : List Tree) → Stands names s places scope ps ts
     → (l : Leaf) → leafKind l ≡ kind → leafNumber l ≡ v → KnownIn scope places (leaf l)
-    → Told names s scope l (leafMeant (schemaOf s) ps ts l) r
+    → Told names s scope l (leafMeant S ps ts l) r
 
 abbrev pub RightValue : (names : ℕ) → (s : List ℕ) → (at : ℕ) → Value → Type 0
 RightValue names s at r = (t : Tree) (end : ℕ) → read (typeAt names) s at ≡ done t end → r ≡ valueOf t
@@ -64,9 +63,9 @@ found-some {f} {g} e h = rw e (go g h)
     go zero h = absurd (h refl)
     go (suc x) h = omega arith
 
-resolved-is : (s finds : List ℕ) → FindsHold s finds → (n v : ℕ) → v ≡ idFound (getD finds n 0) → leaf (named (resolved (schemaOf s) n)) ≡ leaf (named v)
+resolved-is : (S : Schema) (finds : List ℕ) → FindsHold S finds → (n v : ℕ) → v ≡ idFound (getD finds n 0) → leaf (named (resolved S n)) ≡ leaf (named v)
 unfolding resolved
-resolved-is s finds h n v e = ap (λ (x : ℕ). leaf (named x)) (ap idFound (sym (h .entry n)) ∙ sym e)
+resolved-is S finds h n v e = ap (λ (x : ℕ). leaf (named x)) (ap idFound (sym (h .entry n)) ∙ sym e)
 
 no-id : {i : ℕ} → Value.NotName ≡ Value.Id i → ⊥
 no-id e = let z : _≡_ {A = ℕ} 0 1 = cc in omega arith
@@ -147,14 +146,14 @@ module _ (names : ℕ) (s finds places : List ℕ) (n : ℕ) (scope : Scope) whe
 
     types-none : code < 2 → (v : ℕ) → v ≡ idFound (getD finds n 0) → RightParameter names s finds places scope n (Meaning.Id v)
     unfolding IsArgument Told leafMeant
-    types-none l v g h ps ts st k =
+    types-none l v g S h ps ts st k =
         let j = looked ps ts st k in
         let i : IsArgument names s ps ts n Found.Nothing = subst (λ (x : Found). IsArgument names s ps ts n x) (code-none code l) j in
-        i _ ∙ resolved-is s finds h n v g
+        i _ ∙ resolved-is S finds h n v g
 
     types-at : 2 ≤ code → RightParameter names s finds places scope n (Meaning.Type (code - 2))
     unfolding IsArgument Told leafMeant
-    types-at l h ps ts st k =
+    types-at l S h ps ts st k =
         let j = looked ps ts st k in
         let i : IsArgument names s ps ts n (Found.At (code - 2)) = subst (λ (x : Found). IsArgument names s ps ts n x) (code-at code l) j in
         (i .1, i .2 ∙ ap (λ (t : Tree). done t (i .1)) (sym (i .3 _)))
@@ -167,22 +166,22 @@ module _ (names : ℕ) (s finds places : List ℕ) (n : ℕ) (scope : Scope) whe
         let st′ : Stands names s places (Scope.One p value) ps ts = rw e at st in
         (st′ .1, st′ .4, λ d. ap (λ (l : List Tree). argumentOf ps l n d) (st′ .3) ∙ f ps (st′ .0) (st′ .2) (st′ .1) d ∙ rw g)
 
-    one-first : first ≡ true → (ps : List ℕ) (ts : List Tree) → Stands names s places scope ps ts
-        → valueOf (leafMeant (schemaOf s) ps ts (named n)) ≡ value
+    one-first : first ≡ true → (S : Schema) (ps : List ℕ) (ts : List Tree) → Stands names s places scope ps ts
+        → valueOf (leafMeant S ps ts (named n)) ≡ value
     unfolding leafMeant
-    one-first g ps ts st = let i = one-is ps ts st true g in ap valueOf (i .2 _) ∙ i .1
+    one-first g S ps ts st = let i = one-is ps ts st true g in ap valueOf (i .2 _) ∙ i .1
 
     one-id : (i : ℕ) → first ≡ true → value ≡ Value.Id i → RightParameter names s finds places scope n (Meaning.Id i)
     unfolding Told
-    one-id i g q h ps ts st k = is-name _ _ (one-first g ps ts st ∙ q)
+    one-id i g q S h ps ts st k = is-name _ _ (one-first g S ps ts st ∙ q)
 
     one-not : first ≡ true → value ≡ Value.NotName → RightParameter names s finds places scope n Meaning.NotName
     unfolding Told Whole
-    one-not g q h ps ts st k = ((λ w. absurd (rw e at w)), one-first g ps ts st ∙ q)
+    one-not g q S h ps ts st k = ((λ w. absurd (rw e at w)), one-first g S ps ts st ∙ q)
 
     one-other : (v : ℕ) → first ≡ false → v ≡ idFound (getD finds n 0) → RightParameter names s finds places scope n (Meaning.Id v)
     unfolding Told leafMeant
-    one-other v g q h ps ts st k = one-is ps ts st false g .2 _ ∙ resolved-is s finds h n v q
+    one-other v g q S h ps ts st k = one-is ps ts st false g .2 _ ∙ resolved-is S finds h n v q
 
   -- what the tables say of a plain name, by the code's steps
   abbrev Id : ℕ
@@ -256,18 +255,18 @@ module _ (names : ℕ) (s finds places : List ℕ) (scope : Scope) (kind v : ℕ
   no-name a b = rw (ne-eqb kind 3 a, ne-eqb kind 17 b)
 
   kind-3 : (r : Meaning) → kind ≡ 3 → RightParameter names s finds places scope v r → RightMeaning names s finds places scope kind v r
-  kind-3 r e f h ps ts st l k m w =
+  kind-3 r e f S h ps ts st l k m w =
       let q = leaf-3 l v (k ∙ e) m in
-      rw q (f h ps ts st (subst (λ (x : Leaf). KnownIn scope places (leaf x)) q w))
+      rw q (f S h ps ts st (subst (λ (x : Leaf). KnownIn scope places (leaf x)) q w))
 
   kind-17 : (i : ℕ) → kind ≡ 17 → i ≡ idFound (getD finds v 0) → RightMeaning names s finds places scope kind v (Meaning.Id i)
   unfolding Told leafMeant
-  kind-17 i e f h ps ts st l k m w = rw (leaf-17 l v (k ∙ e) m) (resolved-is s finds h v i f)
+  kind-17 i e f S h ps ts st l k m w = rw (leaf-17 l v (k ∙ e) m) (resolved-is S finds h v i f)
 
   kind-other : (kind ≡ 3 → ⊥) → (kind ≡ 17 → ⊥) → RightMeaning names s finds places scope kind v Meaning.Itself
   unfolding Told valueOf
-  kind-other a b h ps ts st l k m w =
-      let e = leaf-other (schemaOf s) ps ts l (λ x. a (sym k ∙ x)) (λ x. b (sym k ∙ x)) in
+  kind-other a b S h ps ts st l k m w =
+      let e = leaf-other S ps ts l (λ x. a (sym k ∙ x)) (λ x. b (sym k ∙ x)) in
       (e, ap valueOf e ∙ leaf-not l (λ x. a (sym k ∙ x)))
 
   pub meaning-right : (w : Meaning) → w ≡ Means-leaf → RightMeaning names s finds places scope kind v w
@@ -284,21 +283,21 @@ module _ (names : ℕ) (s finds places : List ℕ) (scope : Scope) (kind v : ℕ
     told-as : (o : Meaning) → w ≡ o → RightMeaning names s finds places scope kind v o
     told-as o e = rw (← e) f
 
-    pub value-itself : w ≡ Meaning.Itself → RightLeaf names s finds places scope kind v Value.NotName
+    pub value-itself : w ≡ Meaning.Itself → (S : Schema) → RightLeaf names S s finds places scope kind v Value.NotName
     unfolding Told
-    value-itself e h ps ts st l k m q = sym (told-as _ e h ps ts st l k m q .1)
+    value-itself e S h ps ts st l k m q = sym (told-as _ e S h ps ts st l k m q .1)
 
-    pub value-id : (i : ℕ) → w ≡ Meaning.Id i → RightLeaf names s finds places scope kind v (Value.Id i)
+    pub value-id : (i : ℕ) → w ≡ Meaning.Id i → (S : Schema) → RightLeaf names S s finds places scope kind v (Value.Id i)
     unfolding Told valueOf leafValue
-    value-id i e h ps ts st l k m q = sym (ap valueOf (told-as _ e h ps ts st l k m q))
+    value-id i e S h ps ts st l k m q = sym (ap valueOf (told-as _ e S h ps ts st l k m q))
 
-    pub value-type : (p : ℕ) (r : Value) → w ≡ Meaning.Type p → RightValue names s p r → RightLeaf names s finds places scope kind v r
+    pub value-type : (p : ℕ) (r : Value) → w ≡ Meaning.Type p → RightValue names s p r → (S : Schema) → RightLeaf names S s finds places scope kind v r
     unfolding Told
-    value-type p r e g h ps ts st l k m q = let t = told-as _ e h ps ts st l k m q in g _ (t .0) (t .1)
+    value-type p r e g S h ps ts st l k m q = let t = told-as _ e S h ps ts st l k m q in g _ (t .0) (t .1)
 
-    pub value-not : w ≡ Meaning.NotName → RightLeaf names s finds places scope kind v Value.NotName
+    pub value-not : w ≡ Meaning.NotName → (S : Schema) → RightLeaf names S s finds places scope kind v Value.NotName
     unfolding Told
-    value-not e h ps ts st l k m q = sym (told-as _ e h ps ts st l k m q .1)
+    value-not e S h ps ts st l k m q = sym (told-as _ e S h ps ts st l k m q .1)
 
 -- by the shape of a head
 abbrev shapeValue : Head → Value

@@ -30,12 +30,12 @@ abbrev pub outcomeRank : Schema → Outcome Tree → ℕ
 outcomeRank S (done e n) = rankOf S e
 outcomeRank S (refused r p) = 0
 
-unfoldable pub rankAt : (names levels : ℕ) → (s : List ℕ) → (at : ℕ) → ℕ
-rankAt names levels s at = outcomeRank (schemaOf s) (read (treeAt Expression names levels) s at)
+unfoldable pub rankAt : Frame → (levels : ℕ) → (s : List ℕ) → (at : ℕ) → ℕ
+rankAt f levels s at = outcomeRank (schemaOf (f .edition) s) (read (treeAt Expression (f .names) levels) s at)
 
-rank-read : (names levels : ℕ) (s : List ℕ) (at : ℕ) (e : Tree) (n : ℕ) → read (treeAt Expression names levels) s at ≡ done e n → rankAt names levels s at ≡ rankOf (schemaOf s) e
+rank-read : (f : Frame) (levels : ℕ) (s : List ℕ) (at : ℕ) (e : Tree) (n : ℕ) → read (treeAt Expression (f .names) levels) s at ≡ done e n → rankAt f levels s at ≡ rankOf (schemaOf (f .edition) s) e
 unfolding rankAt
-rank-read names levels s at e n q = ap (outcomeRank (schemaOf s)) q
+rank-read f levels s at e n q = ap (outcomeRank (schemaOf (f .edition) s)) q
 
 module _ (S : Schema) (n : ℕ) (t : Tree) where
   pub applied-none : (chain : ℕ) → ((f : Alias → ℕ) → throughAlias (slotFound S (getD (S .finds) n 0)) f ≡ unfound) → applied S chain n t ≡ unfound
@@ -77,17 +77,17 @@ module _ (s starts : List ℕ) (f : Frame) (finds places : List ℕ) (at levels 
   Shape x = shape (read (headAt Expression (f .names)) s at) ≡ x
 
   abbrev Right : Value → Type 0
-  Right r = RightName (f .names) levels s places at scope r
+  Right r = RightName (f .names) levels (schemaOf (f .edition) s) s places at scope r
 
   pub some-level : levels ≡ 0 → ⊥
   some-level z = no-tree Expression (f .names) s at levels z (a .tree) (a .end) (a .reads)
 
-  pub name-leaf : (k g v n : ℕ) (r : Value) → Shape (Head.Leaf k g v n) → RightLeaf (f .names) s finds places scope k v r → Right r
+  pub name-leaf : (k g v n : ℕ) (r : Value) → Shape (Head.Leaf k g v n) → ((S : Schema) → RightLeaf (f .names) S s finds places scope k v r) → Right r
   unfolding substitute
   name-leaf k g v n r x w ps ts st e end q chain l =
       let p = parts Expression (f .names) s at levels some-level _ x e end q in
       let same : a .tree ≡ leaf (p .0) = given (sym (a .reads) ∙ q) .0 ∙ p .1 in
-      rw (p .1) (w (a .ready .holds) ps ts st (p .0) (p .2) (p .4) (subst (λ (u : Tree). KnownIn scope places u) same (a .known)))
+      rw (p .1) (w (schemaOf (f .edition) s) (a .ready .holds) ps ts st (p .0) (p .2) (p .4) (subst (λ (u : Tree). KnownIn scope places u) same (a .known)))
 
   pub name-one : (k n : ℕ) → Shape (Head.One k n) → Right Value.NotName
   unfolding substitute valueOf
@@ -105,11 +105,11 @@ module _ (s starts : List ℕ) (f : Frame) (finds places : List ℕ) (at levels 
   name-refused r n o x = absurd (parts Expression (f .names) s at levels some-level _ x (a .tree) (a .end) (a .reads))
 
   module _ (v n : ℕ) (x : Shape (Head.Generic v n)) where
-    pub name-none : RightAlias (f .names) s v AliasAt.Nothing → Right (Value.Id 4294967295)
+    pub name-none : RightAlias (f .names) (schemaOf (f .edition) s) s v AliasAt.Nothing → Right (Value.Id 4294967295)
     unfolding substitute valueOf leafValue RightAlias
     name-none w ps ts st e end q chain l =
         let p = parts Expression (f .names) s at levels some-level _ x e end q in
-        rw (p .1) (ap Value.Id (sym (applied-none (schemaOf s) v _ chain w)))
+        rw (p .1) (ap Value.Id (sym (applied-none (schemaOf (f .edition) s) v _ chain w)))
 
     -- the argument, and the target
     pub body-asked : Asked s starts f finds places n (levels - 1) scope
@@ -127,14 +127,14 @@ module _ (s starts : List ℕ) (f : Frame) (finds places : List ℕ) (at levels 
           stands = a .stands;
         }
 
-    pub body-less : rankAt (f .names) (levels - 1) s n ≤ rankAt (f .names) levels s at
+    pub body-less : rankAt f (levels - 1) s n ≤ rankAt f levels s at
     body-less =
         let p = parts Expression (f .names) s at levels some-level _ x (a .tree) (a .end) (a .reads) in
-        let y = rank-read (f .names) (levels - 1) s n (p .0) (a .end) (p .2) in
-        let z = rank-read (f .names) levels s at (a .tree) (a .end) (a .reads) ∙ ap (rankOf (schemaOf s)) (p .1) in
-        omega (arith, argument-below (schemaOf s) v (p .0))
+        let y = rank-read f (levels - 1) s n (p .0) (a .end) (p .2) in
+        let z = rank-read f levels s at (a .tree) (a .end) (a .reads) ∙ ap (rankOf (schemaOf (f .edition) s)) (p .1) in
+        omega (arith, argument-below (schemaOf (f .edition) s) v (p .0))
 
-    module _ (list target : ℕ) (w : RightAlias (f .names) s v (AliasAt.At list target)) where
+    module _ (list target : ℕ) (w : RightAlias (f .names) (schemaOf (f .edition) s) s v (AliasAt.At list target)) where
       pub target-asked : (inner : Value) (inside : Scope) → inside ≡ Scope.One list inner → Asked s starts f finds places target 32 inside
       unfolding RightAlias
       target-asked inner inside q =
@@ -150,28 +150,28 @@ module _ (s starts : List ℕ) (f : Frame) (finds places : List ℕ) (at levels 
             stands = stands-one (f .names) s places inside list inner (w .1 .parameters) (w .2) q (w .6);
           }
 
-      pub target-less : rankAt (f .names) 32 s target < rankAt (f .names) levels s at
+      pub target-less : rankAt f 32 s target < rankAt f levels s at
       unfolding RightAlias
       target-less =
           let p = parts Expression (f .names) s at levels some-level _ x (a .tree) (a .end) (a .reads) in
-          let y = rank-read (f .names) 32 s target (w .1 .target) (w .3) (w .7) in
-          let z = rank-read (f .names) levels s at (a .tree) (a .end) (a .reads) ∙ ap (rankOf (schemaOf s)) (p .1) in
-          omega (arith, target-below (schemaOf s) (alias-ranked s starts f (a .ready .promise)) v (w .0) (w .1) (p .0) (w .4) (w .5))
+          let y = rank-read f 32 s target (w .1 .target) (w .3) (w .7) in
+          let z = rank-read f levels s at (a .tree) (a .end) (a .reads) ∙ ap (rankOf (schemaOf (f .edition) s)) (p .1) in
+          omega (arith, target-below (schemaOf (f .edition) s) (alias-ranked s starts f (a .ready .promise)) v (w .0) (w .1) (p .0) (w .4) (w .5))
 
-      pub name-alias : (inner meant r : Value) → RightName (f .names) (levels - 1) s places n scope inner
-          → RightName (f .names) 32 s places target (Scope.One list inner) meant → r ≡ Value.Id (idOr meant) → Right r
+      pub name-alias : (inner meant r : Value) → RightName (f .names) (levels - 1) (schemaOf (f .edition) s) s places n scope inner
+          → RightName (f .names) 32 (schemaOf (f .edition) s) s places target (Scope.One list inner) meant → r ≡ Value.Id (idOr meant) → Right r
       unfolding substitute valueOf leafValue RightAlias Stands
       name-alias inner meant r i j d ps ts st e end q chain l =
           let p = parts Expression (f .names) s at levels some-level _ x e end q in
-          let k : rankOf (schemaOf s) (generic v (p .0)) ≤ chain = rw (← p .1) l in
-          let y = target-below (schemaOf s) (alias-ranked s starts f (a .ready .promise)) v (w .0) (w .1) (p .0) (w .4) (w .5) in
-          let z = argument-below (schemaOf s) v (p .0) in
+          let k : rankOf (schemaOf (f .edition) s) (generic v (p .0)) ≤ chain = rw (← p .1) l in
+          let y = target-below (schemaOf (f .edition) s) (alias-ranked s starts f (a .ready .promise)) v (w .0) (w .1) (p .0) (w .4) (w .5) in
+          let z = argument-below (schemaOf (f .edition) s) v (p .0) in
           rw (p .1) (d ∙ ap Value.Id (go (p .0) chain (omega arith) (i ps ts st (p .0) end (p .2) chain (omega arith))))
         where
-          go : (u : Tree) (chain : ℕ) → rankOf (schemaOf s) (w .1 .target) < chain
-              → inner ≡ valueOf (substitute (schemaOf s) (applied (schemaOf s) chain) ps ts u)
-              → idOr meant ≡ applied (schemaOf s) chain v (substitute (schemaOf s) (applied (schemaOf s) chain) ps ts u)
+          go : (u : Tree) (chain : ℕ) → rankOf (schemaOf (f .edition) s) (w .1 .target) < chain
+              → inner ≡ valueOf (substitute (schemaOf (f .edition) s) (applied (schemaOf (f .edition) s) chain) ps ts u)
+              → idOr meant ≡ applied (schemaOf (f .edition) s) chain v (substitute (schemaOf (f .edition) s) (applied (schemaOf (f .edition) s) chain) ps ts u)
           go u zero k g = absurd (omega arith)
           go u (suc c) k g =
-              ap idOr (j (w .1 .parameters) (substitute (schemaOf s) (applied (schemaOf s) (suc c)) ps ts u ∷ []) (w .2, _, w .6, refl, sym g) (w .1 .target) (w .3) (w .7) c (omega arith))
-              ∙ sym (applied-some (schemaOf s) v _ c (w .0) (w .1) (w .4) (w .5))
+              ap idOr (j (w .1 .parameters) (substitute (schemaOf (f .edition) s) (applied (schemaOf (f .edition) s) (suc c)) ps ts u ∷ []) (w .2, _, w .6, refl, sym g) (w .1 .target) (w .3) (w .7) c (omega arith))
+              ∙ sym (applied-some (schemaOf (f .edition) s) v _ c (w .0) (w .1) (w .4) (w .5))

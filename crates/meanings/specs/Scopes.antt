@@ -12,7 +12,7 @@ use Rattle.tree.specs.TreeAt as node
 use Rattle.tree.specs.declared.Sort.the-variants.{Expression}
 use Rattle.slot.specs.Field.{expressionAt}
 use Rattle.slot.specs.Slot.{Alias, alias}
-use Rattle.image.specs.Schema.{slotOf}
+use Rattle.image.specs.Schema.{Schema, slotOf}
 use Rattle.image.specs.declared.Frame.{Frame}
 use Rattle.reader.specs.Reading.{schemaOf}
 use Rattle.reader.specs.Promise.{Promise}
@@ -26,8 +26,8 @@ use Rattle.meanings.specs.declared.Found.{Found}
 use Rattle.meanings.specs.declared.AliasAt.{AliasAt}
 
 -- a table of what each name finds
-pub record FindsHold (s finds : List ℕ) : Type 0 where
-  pub entry : (n : ℕ) → getD finds n 0 ≡ getD (schemaOf s .finds) n 0
+pub record FindsHold (S : Schema) (finds : List ℕ) : Type 0 where
+  pub entry : (n : ℕ) → getD finds n 0 ≡ getD (S .finds) n 0
 
 -- whether a name is the first of a counted run; the others are not read
 unfoldable pub firstAt : (names : ℕ) → Grammar (List ℕ)
@@ -80,33 +80,33 @@ KnownIn Scope.Types places e = AtNames (Known places) e
 KnownIn (Scope.One p v) places e = Unit {0}
 
 -- where the alias is that a name finds
-unfoldable pub RightAlias : (names : ℕ) → (s : List ℕ) → (n : ℕ) → AliasAt → Type 0
-RightAlias names s n (AliasAt.At p q) =
+unfoldable pub RightAlias : (names : ℕ) → Schema → (s : List ℕ) → (n : ℕ) → AliasAt → Type 0
+RightAlias names S s n (AliasAt.At p q) =
     (i : ℕ) × (a : Alias) × (m : ℕ) × (end : ℕ)
-    × (getD (schemaOf s .finds) n 0 ≡ suc i) × (slotOf (schemaOf s) i ≡ alias a)
+    × (getD (S .finds) n 0 ≡ suc i) × (slotOf S i ≡ alias a)
     × (read (counted (number name names)) s p ≡ done (a .parameters) m) × (read (expressionAt names) s q ≡ done (a .target) end)
-RightAlias names s n AliasAt.Nothing =
-    (f : Alias → ℕ) → throughAlias (slotFound (schemaOf s) (getD (schemaOf s .finds) n 0)) f ≡ unfound
+RightAlias names S s n AliasAt.Nothing =
+    (f : Alias → ℕ) → throughAlias (slotFound S (getD (S .finds) n 0)) f ≡ unfound
 
 -- the contracts
-abbrev pub RightLeaf : (names : ℕ) → (s finds places : List ℕ) → Scope → (kind v : ℕ) → Value → Type 0
-RightLeaf names s finds places scope kind v r =
-    FindsHold s finds → (ps : List ℕ) (ts : List Tree) → Stands names s places scope ps ts
+abbrev pub RightLeaf : (names : ℕ) → Schema → (s finds places : List ℕ) → Scope → (kind v : ℕ) → Value → Type 0
+RightLeaf names S s finds places scope kind v r =
+    FindsHold S finds → (ps : List ℕ) (ts : List Tree) → Stands names s places scope ps ts
     → (l : Leaf) → leafKind l ≡ kind → leafNumber l ≡ v → KnownIn scope places (leaf l)
-    → r ≡ valueOf (leafMeant (schemaOf s) ps ts l)
+    → r ≡ valueOf (leafMeant S ps ts l)
 
 -- which name an expression means, whatever the chain of aliases, if it is enough
-abbrev pub RightName : (names levels : ℕ) → (s places : List ℕ) → (at : ℕ) → Scope → Value → Type 0
-RightName names levels s places at scope r =
+abbrev pub RightName : (names levels : ℕ) → Schema → (s places : List ℕ) → (at : ℕ) → Scope → Value → Type 0
+RightName names levels S s places at scope r =
     (ps : List ℕ) (ts : List Tree) → Stands names s places scope ps ts
     → (e : Tree) (end : ℕ) → read (treeAt Expression names levels) s at ≡ done e end
-    → (chain : ℕ) → rankOf (schemaOf s) e ≤ chain
-    → r ≡ valueOf (substitute (schemaOf s) (applied (schemaOf s) chain) ps ts e)
+    → (chain : ℕ) → rankOf S e ≤ chain
+    → r ≡ valueOf (substitute S (applied S chain) ps ts e)
 
 -- an accepted image, and the table of what its names find
 pub record Ready (s starts : List ℕ) (f : Frame) (finds : List ℕ) : Type 0 where
   pub promise : Promise s starts f
-  pub holds : FindsHold s finds
+  pub holds : FindsHold (schemaOf (f .edition) s) finds
 
 -- an expression was read, its names were looked up if the scope asks for it, and the scope stands for something
 pub record Asked (s starts : List ℕ) (f : Frame) (finds places : List ℕ) (at levels : ℕ) (scope : Scope) : Type 0 where

@@ -12,6 +12,8 @@ ghost use lib.ListN.{getD, set};
 ghost use Rattle.number.specs.Grammar.{read};
 ghost use Rattle.tree.specs.TreeAt.{headAt};
 ghost use Rattle.tree.specs.declared.Sort.{Sort};
+ghost use Rattle.image.specs.Schema.{Schema};
+ghost use Rattle.reader.specs.Reading.{schemaOf};
 ghost use Rattle.findings.specs.Meaning.{idFound, idOr};
 ghost use Rattle.findings.specs.declared.Value.{Value};
 ghost use Rattle.meanings.specs.Places.{codeOf, RightArgumentIn, RightArgument, RightLeafLook, LookAsked, RightLook};
@@ -368,7 +370,7 @@ fn leaf_value(
     v: u64,
     scope: Scope,
 ) -> Value
-    ensures { λ r. ⌜ RightLeaf names (now (image .entry)) (now (finds .entry)) (now (places .entry)) scope kind v r ⌝ }
+    ensures { λ r. ⌜ ((S : Schema) → RightLeaf names S (now (image .entry)) (now (finds .entry)) (now (places .entry)) scope kind v r) ⌝ }
 {
     match leaf_meaning(image, finds, places, names, kind, v, scope) {
         Meaning::Itself => Value::NotName,
@@ -381,7 +383,7 @@ fn leaf_value(
 // Where the alias is that a name finds: its parameters at the slot's body, the target behind them.
 fn alias_of(image: &[u8], starts: &[usize], frame: Frame, finds: &[u16], n: u64) -> AliasAt
     requires { ⌜ Ready (now image) (now starts) frame (now finds) ⌝ }
-    ensures { λ r. ⌜ RightAlias (frame .names) (now (image .entry)) n r ⌝ }
+    ensures { λ r. ⌜ RightAlias (frame .names) (schemaOf (frame .edition) (now (image .entry))) (now (image .entry)) n r ⌝ }
 {
     let found = find(finds, n);
     if found == 0 {
@@ -424,7 +426,7 @@ pub fn name_of(
     scope: Scope,
 ) -> Value
     requires { ⌜ Asked (now image) (now starts) frame (now finds) (now places) at levels scope ⌝ }
-    ensures { λ r. ⌜ RightName (frame .names) levels (now (image .entry)) (now (places .entry)) at scope r ⌝ }
+    ensures { λ r. ⌜ RightName (frame .names) levels (schemaOf (frame .edition) (now (image .entry))) (now (image .entry)) (now (places .entry)) at scope r ⌝ }
 {
     let names = frame.names;
     match tree::read_head(image, at, Sort::Expression, names) {

@@ -15,7 +15,7 @@ use borrow.Author.Tests.{ltb-true, ltb-false, lt-ltb, le-ltb}
 use Rattle.number.specs.Grammar.{many, Outcome, done, refused, below, read}
 use Rattle.number.specs.Answers.{next, follow}
 use Rattle.number.specs.declared.Next.{Next}
-use Rattle.number.proofs.Reading.{given, not-done, front, counted-on, counted-refused}
+use Rattle.number.proofs.Reading.{given, not-done, then-done, front, counted-on, counted-refused}
 use Rattle.tree.specs.Tree.{Tree, Leaf, leafKind, leafNumber, primitive, subByte, semantic, named, bitsInline, qualified}
 use Rattle.tree.specs.TreeAt.{Node, none, one, two, sized, applied, headAt, shape}
 use Rattle.tree.specs.Encoding.{encodingAt}
@@ -24,13 +24,14 @@ use Rattle.tree.specs.declared.Head.{Head}
 use Rattle.tree.proofs.Head as heads
 use Rattle.tree.proofs.Shapes.{parts}
 use Rattle.tree.proofs.Nodes.{head-parts}
-use Rattle.slot.specs.Field.{typeAt, Field, fieldAt, fieldsAt}
+use Rattle.slot.specs.Field.{typeAt, limitAt, Field, fieldAt, fieldsAt}
 use Rattle.slot.specs.Slot.{Slot, empty, message, enum, flags, union, newtype, config, alias, trait, impl, slotKind, Message, messageAt, newtypeAt, slotBodyAt}
 use Rattle.tree.specs.Short.{shortLeaf}
 use Rattle.slot.specs.Short.{shortAt}
 use Rattle.slot.specs.declared.Short.{Short}
 use Rattle.slot.proofs.FourBytes.{short-reads, short-kind, short-number}
 use Rattle.slot.proofs.Whole.{made-of}
+use Rattle.slot.specs.declared.Edition.{Edition}
 use Rattle.image.specs.Schema.{Schema, slotOf}
 use Rattle.view.specs.Take.{placeOf}
 use Rattle.view.proofs.Places.{inner-stands, type-stands}
@@ -177,65 +178,82 @@ module _ (test : ℕ → Bool) (names : ℕ) (s : List ℕ) where
 
 -- ## A field
 
-module _ (names : ℕ) (s : List ℕ) (at : ℕ) where
-  -- a field's type stands at p
+module _ (ed : Edition) (names : ℕ) (s : List ℕ) (at : ℕ) where
+  -- a field's type stands at p, and the limit behind it
   abbrev pub TypeAt : (p : ℕ) → Type 0
-  TypeAt p = (x : Field) (end : ℕ) → read (fieldAt names) s at ≡ done x end → read (typeAt names) s p ≡ done (x .type) end
+  TypeAt p = (x : Field) (end : ℕ) → read (fieldAt ed names) s at ≡ done x end
+      → (n : ℕ) × (read (typeAt names) s p ≡ done (x .type) n) × (read (limitAt ed) s n ≡ done (x .limit) end)
 
   pub type-place : (a b : Next) (p : ℕ) → a ≡ next (below names s at) → b ≡ follow a (λ n. next (read (encodingAt 32) s n)) → p ≡ placeOf b → TypeAt p
   type-place a b p f g w x end e =
-      let y = type-stands s names at x end e a b f g in
-      ap (read (typeAt names) s) (placed w (y .1)) ∙ y .2
+      let y = type-stands s ed names at x end e a b f g in
+      (y .2, ap (read (typeAt names) s) (placed w (y .1)) ∙ y .3, y .4)
 
--- what is answered of the field at a place, and the position after it
-abbrev pub LedField : (test : ℕ → Bool) (names : ℕ) (s : List ℕ) (at : ℕ) → Bool → ℕ → Type 0
-LedField test names s at ok n = (x : Field) (end : ℕ) → read (fieldAt names) s at ≡ done x end → (ok ≡ bareType test (x .type)) × (n ≡ end)
+module _ (test : ℕ → Bool) (ed : Edition) (names : ℕ) (s : List ℕ) (at : ℕ) where
+  -- what is answered of the field at a place, and where its limit stands
+  abbrev pub LedTyped : Bool → ℕ → Type 0
+  LedTyped ok n = (x : Field) (end : ℕ) → read (fieldAt ed names) s at ≡ done x end → (ok ≡ bareType test (x .type)) × (read (limitAt ed) s n ≡ done (x .limit) end)
 
-pub led-field : (test : ℕ → Bool) (names : ℕ) (s : List ℕ) (at p : ℕ) (ok : Bool) (n : ℕ) → TypeAt names s at p → LedType test names s p ok n → LedField test names s at ok n
-led-field test names s at p ok n w i x end e = i (x .type) end (w x end e)
+  -- and the position after the field
+  abbrev pub LedField : Bool → ℕ → Type 0
+  LedField ok n = (x : Field) (end : ℕ) → read (fieldAt ed names) s at ≡ done x end → (ok ≡ bareType test (x .type)) × (n ≡ end)
 
-pub led-short : (test : ℕ → Bool) (names : ℕ) (s : List ℕ) (at g k v : ℕ) (ok : Bool) → shortAt names s at ≡ Short.Is g k v
-    → ((l : Leaf) → leafKind l ≡ k → leafNumber l ≡ v → ok ≡ bareLeaf test l) → LedField test names s at ok (at + 4)
-unfolding bareType
-led-short test names s at g k v ok q w x end e =
-    let r = given (sym (short-reads names s at g k v q) ∙ e) in
-    (w (shortLeaf k v) (short-kind names s at g k v q) (short-number names s at g k v q) ∙ ap (λ (y : Field). bareType test (y .type)) (r .0), r .1)
+  pub led-long : (p : ℕ) (ok : Bool) (n : ℕ) → TypeAt ed names s at p → LedType test names s p ok n → LedTyped ok n
+  led-long p ok n w i x end e =
+      let y = w x end e in
+      let r = i (x .type) (y .0) (y .1) in
+      (r .0, ap (read (limitAt ed) s) (r .1) ∙ y .2)
+
+  pub led-short : (g k v : ℕ) (ok : Bool) → shortAt names s at ≡ Short.Is g k v
+      → ((l : Leaf) → leafKind l ≡ k → leafNumber l ≡ v → ok ≡ bareLeaf test l) → LedTyped ok (at + 4)
+  unfolding bareType
+  led-short g k v ok q w x end e =
+      let y = then-done (read (limitAt ed) s (at + 4)) _ (sym (short-reads names s at g k v q ed) ∙ e) in
+      let r = given (y .3) in (
+        w (shortLeaf k v) (short-kind names s at g k v q) (short-number names s at g k v q) ∙ ap (λ (z : Field). bareType test (z .type)) (r .0),
+        y .2 ∙ ap (λ (z : Field). done (z .limit) (y .1)) (r .0) ∙ ap (done (x .limit)) (r .1),
+      )
+
+  -- past the limit
+  pub led-field : (ok : Bool) (n : ℕ) → LedTyped ok n → (l : Next) (m : ℕ) → l ≡ follow (Next.At n) (λ k. next (read (limitAt ed) s k)) → m ≡ placeOf l → LedField ok m
+  unfolding follow
+  led-field ok n i l m f w x end e = let r = i x end e in (r .0, placed w (f ∙ ap next (r .1)))
 
 -- ## One field after another
 
 -- `left` of `count` fields are still to come at p, and the answer is theirs
-pub record Left (test : ℕ → Bool) (names : ℕ) (s : List ℕ) (count at left p : ℕ) : Type 0 where
-  pub whole : (fs : List Field) (end : ℕ) → read (many count (fieldAt names)) s at ≡ done fs end
-      → (gs : List Field) × (read (many left (fieldAt names)) s p ≡ done gs end) × (bareFields test fs ≡ bareFields test gs)
+pub record Left (test : ℕ → Bool) (ed : Edition) (names : ℕ) (s : List ℕ) (count at left p : ℕ) : Type 0 where
+  pub whole : (fs : List Field) (end : ℕ) → read (many count (fieldAt ed names)) s at ≡ done fs end
+      → (gs : List Field) × (read (many left (fieldAt ed names)) s p ≡ done gs end) × (bareFields test fs ≡ bareFields test gs)
 
-module _ (test : ℕ → Bool) (names : ℕ) (s : List ℕ) where
+module _ (test : ℕ → Bool) (ed : Edition) (names : ℕ) (s : List ℕ) where
   module _ (count at : ℕ) where
-    pub left-start : Left test names s count at count at
+    pub left-start : Left test ed names s count at count at
     left-start = record { whole = λ fs end e. (fs, e, refl) }
 
-    module _ (left p : ℕ) (l : Left test names s count at left p) where
-      module _ (h : 0 < left) (ok : Bool) (n : ℕ) (i : LedField test names s p ok n) where
+    module _ (left p : ℕ) (l : Left test ed names s count at left p) where
+      module _ (h : 0 < left) (ok : Bool) (n : ℕ) (i : LedField test ed names s p ok n) where
         -- the answer after the field at p
-        on : (fs : List Field) (end : ℕ) → read (many count (fieldAt names)) s at ≡ done fs end
-            → (gs : List Field) × (read (many (left - 1) (fieldAt names)) s n ≡ done gs end) × (bareFields test fs ≡ cond ok (bareFields test gs) false)
+        on : (fs : List Field) (end : ℕ) → read (many count (fieldAt ed names)) s at ≡ done fs end
+            → (gs : List Field) × (read (many (left - 1) (fieldAt ed names)) s n ≡ done gs end) × (bareFields test fs ≡ cond ok (bareFields test gs) false)
         unfolding bareFields
         on fs end e =
             let d : left ≡ suc (left - 1) = omega arith in
             let a = l .whole fs end e in
-            let w = front (fieldAt names) s (left - 1) p (a .0) end (rw d at (a .1)) in
+            let w = front (fieldAt ed names) s (left - 1) p (a .0) end (rw d at (a .1)) in
             let q = i (w .first) (w .middle) (w .here) in (
               w .others,
-              ap (read (many (left - 1) (fieldAt names)) s) (q .1) ∙ w .rest,
+              ap (read (many (left - 1) (fieldAt ed names)) s) (q .1) ∙ w .rest,
               a .2 ∙ ap (bareFields test) (w .whole) ∙ ap (λ (b : Bool). cond b (bareFields test (w .others)) false) (sym (q .0)),
             )
 
-        pub left-on : ok ≡ true → Left test names s count at (left - 1) n
+        pub left-on : ok ≡ true → Left test ed names s count at (left - 1) n
         left-on q = record { whole = λ fs end e. let a = on fs end e in (a .0, a .1, a .2 ∙ ap (λ (b : Bool). cond b (bareFields test (a .0)) false) q) }
 
-        pub left-stop : ok ≡ false → (fs : List Field) (end : ℕ) → read (many count (fieldAt names)) s at ≡ done fs end → false ≡ bareFields test fs
+        pub left-stop : ok ≡ false → (fs : List Field) (end : ℕ) → read (many count (fieldAt ed names)) s at ≡ done fs end → false ≡ bareFields test fs
         left-stop q fs end e = let a = on fs end e in sym (a .2 ∙ ap (λ (b : Bool). cond b (bareFields test (a .0)) false) q)
 
-      pub left-end : left ≤ 0 → (fs : List Field) (end : ℕ) → read (many count (fieldAt names)) s at ≡ done fs end → true ≡ bareFields test fs
+      pub left-end : left ≤ 0 → (fs : List Field) (end : ℕ) → read (many count (fieldAt ed names)) s at ≡ done fs end → true ≡ bareFields test fs
       unfolding many read bareFields
       left-end h fs end e =
           let d : left ≡ 0 = omega arith in
@@ -245,25 +263,25 @@ module _ (test : ℕ → Bool) (names : ℕ) (s : List ℕ) where
   -- behind their count
   module _ (at : ℕ) (r : Bool) where
     abbrev pub LedFields : Type 0
-    LedFields = (fs : List Field) (end : ℕ) → read (fieldsAt names) s at ≡ done fs end → r ≡ bareFields test fs
+    LedFields = (fs : List Field) (end : ℕ) → read (fieldsAt ed names) s at ≡ done fs end → r ≡ bareFields test fs
 
     pub counted-led : (c n : ℕ) → below 65537 s at ≡ done c n
-        → ((fs : List Field) (end : ℕ) → read (many c (fieldAt names)) s n ≡ done fs end → r ≡ bareFields test fs) → LedFields
-    counted-led c n e i fs end q = i fs end (sym (counted-on (fieldAt names) s at c n e) ∙ q)
+        → ((fs : List Field) (end : ℕ) → read (many c (fieldAt ed names)) s n ≡ done fs end → r ≡ bareFields test fs) → LedFields
+    counted-led c n e i fs end q = i fs end (sym (counted-on (fieldAt ed names) s at c n e) ∙ q)
 
     pub counted-not : (q p : ℕ) → below 65537 s at ≡ refused q p → LedFields
-    counted-not q p e fs end k = absurd (not-done (counted-refused (fieldAt names) s at q p e) k)
+    counted-not q p e fs end k = absurd (not-done (counted-refused (fieldAt ed names) s at q p e) k)
 
 -- ## A slot
 
-module _ (test : ℕ → Bool) (names : ℕ) (s : List ℕ) (x : Slot) (kind body : ℕ) (b : Behind names s x kind body) where
+module _ (test : ℕ → Bool) (ed : Edition) (names : ℕ) (s : List ℕ) (x : Slot) (kind body : ℕ) (b : Behind ed names s x kind body) where
   pub slot-message : kind ≡ 1 → (p : ℕ) (r : Bool)
-      → ((names : ℕ) (m : Message) (end : ℕ) → read (messageAt names) s body ≡ done m end → read (fieldsAt names) s p ≡ done (m .fields) end)
-      → LedFields test names s p r → r ≡ bareSlot test x
+      → ((ed : Edition) (names : ℕ) (m : Message) (end : ℕ) → read (messageAt ed names) s body ≡ done m end → read (fieldsAt ed names) s p ≡ done (m .fields) end)
+      → LedFields test ed names s p r → r ≡ bareSlot test x
   unfolding slotBodyAt bareSlot
   slot-message e p r w i =
-      let m = made-of s message (messageAt names) body x (b .end) (body-at b 1 e) in
-      i (m .held .fields) (b .end) (w names (m .held) (b .end) (m .reads)) ∙ sym (ap (bareSlot test) (m .slotIs))
+      let m = made-of s message (messageAt ed names) body x (b .end) (body-at b 1 e) in
+      i (m .held .fields) (b .end) (w ed names (m .held) (b .end) (m .reads)) ∙ sym (ap (bareSlot test) (m .slotIs))
 
   pub slot-newtype : kind ≡ 5 → (r : Bool) (n : ℕ) → LedType test names s body r n → r ≡ bareSlot test x
   unfolding slotBodyAt bareSlot

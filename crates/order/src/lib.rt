@@ -14,13 +14,13 @@ ghost use Prim.Native.Nat.{ℕ, _<_};
 ghost use lib.Dec.{ltb};
 ghost use Rattle.number.specs.Grammar.{done, read};
 ghost use Rattle.tree.specs.Tree.{Tree, Leaf, leafKind, leafNumber};
-ghost use Rattle.slot.specs.Field.{typeAt, Field, fieldAt, fieldsAt};
+ghost use Rattle.slot.specs.Field.{typeAt, limitAt, Field, fieldAt, fieldsAt};
 ghost use Rattle.image.specs.Schema.{slotOf};
 ghost use Rattle.reader.specs.Reading.{schemaOf};
 ghost use Rattle.reader.specs.Promise.{Promise};
 ghost use Rattle.order.specs.Order.{rank, leadsOn, bareLeaf, bareType, bareFields, bareSlot, ordered, isOrdered};
 
-// Whether the bare name of a type, if it is one, leads on; and the position after the type.
+// Whether the bare name of a type, if it is one, leads on; and the position after the type, or after the field.
 struct Led {
     ok: bool,
     next: usize,
@@ -35,7 +35,7 @@ fn is_lower(up: bool, id: u64, slot: u64) -> bool
 
 fn leads_on(image: &[u8], starts: &[usize], frame: Frame, up: bool, slot: usize, id: u64) -> bool
     requires { ⌜ Promise (now image) (now starts) frame × (slot < frame .slots) ⌝ }
-    ensures { λ r. ⌜ r ≡ leadsOn up (schemaOf (now (image .entry))) slot id ⌝ }
+    ensures { λ r. ⌜ r ≡ leadsOn up (schemaOf (frame .edition) (now (image .entry))) slot id ⌝ }
 {
     if is_lower(up, id, slot as u64) {
         return true;
@@ -62,7 +62,7 @@ fn leaf_leads_on(
     number: u64,
 ) -> bool
     requires { ⌜ Promise (now image) (now starts) frame × (slot < frame .slots) ⌝ }
-    ensures { λ r. ⌜ ((l : Leaf) → leafKind l ≡ kind → leafNumber l ≡ number → r ≡ bareLeaf (leadsOn up (schemaOf (now (image .entry))) slot) l) ⌝ }
+    ensures { λ r. ⌜ ((l : Leaf) → leafKind l ≡ kind → leafNumber l ≡ number → r ≡ bareLeaf (leadsOn up (schemaOf (frame .edition) (now (image .entry))) slot) l) ⌝ }
 {
     match kind {
         3 => leads_on(image, starts, frame, up, slot, number),
@@ -89,7 +89,7 @@ fn type_leads_on(
     at: usize,
 ) -> Led
     requires { ⌜ Promise (now image) (now starts) frame × (slot < frame .slots) ⌝ }
-    ensures { λ r. ⌜ ((t : Tree) (end : ℕ) → read (typeAt (frame .names)) (now (image .entry)) at ≡ done t end → (r .ok ≡ bareType (leadsOn up (schemaOf (now (image .entry))) slot) t) × (r .next ≡ end)) ⌝ }
+    ensures { λ r. ⌜ ((t : Tree) (end : ℕ) → read (typeAt (frame .names)) (now (image .entry)) at ≡ done t end → (r .ok ≡ bareType (leadsOn up (schemaOf (frame .edition) (now (image .entry))) slot) t) × (r .next ≡ end)) ⌝ }
 {
     if is_name(image, at) {
         if let Head::Leaf(kind, _, number, next) = tree::read_head(
@@ -106,6 +106,7 @@ fn type_leads_on(
     Led { ok: true, next }
 }
 
+// A long field, up to its limit.
 fn long_field_leads_on(
     image: &[u8],
     starts: &[usize],
@@ -115,13 +116,35 @@ fn long_field_leads_on(
     at: usize,
 ) -> Led
     requires { ⌜ Promise (now image) (now starts) frame × (slot < frame .slots) ⌝ }
-    ensures { λ r. ⌜ ((x : Field) (end : ℕ) → read (fieldAt (frame .names)) (now (image .entry)) at ≡ done x end → (r .ok ≡ bareType (leadsOn up (schemaOf (now (image .entry))) slot) (x .type)) × (r .next ≡ end)) ⌝ }
+    ensures { λ r. ⌜ ((x : Field) (end : ℕ) → read (fieldAt (frame .edition) (frame .names)) (now (image .entry)) at ≡ done x end → (r .ok ≡ bareType (leadsOn up (schemaOf (frame .edition) (now (image .entry))) slot) (x .type)) × (read (limitAt (frame .edition)) (now (image .entry)) (r .next) ≡ done (x .limit) end)) ⌝ }
 {
     let name = number::skip_below(image, at, frame.names);
     let place = view::place_of(tree::skip_encoding(image, name));
     type_leads_on(image, starts, frame, up, slot, place)
 }
 
+// A field, up to its limit.
+fn field_type_leads_on(
+    image: &[u8],
+    starts: &[usize],
+    frame: Frame,
+    up: bool,
+    slot: usize,
+    at: usize,
+) -> Led
+    requires { ⌜ Promise (now image) (now starts) frame × (slot < frame .slots) ⌝ }
+    ensures { λ r. ⌜ ((x : Field) (end : ℕ) → read (fieldAt (frame .edition) (frame .names)) (now (image .entry)) at ≡ done x end → (r .ok ≡ bareType (leadsOn up (schemaOf (frame .edition) (now (image .entry))) slot) (x .type)) × (read (limitAt (frame .edition)) (now (image .entry)) (r .next) ≡ done (x .limit) end)) ⌝ }
+{
+    match slot::short_field(image, at, frame.names) {
+        Short::Is(_, kind, number) => {
+            let ok = leaf_leads_on(image, starts, frame, up, slot, kind, number);
+            Led { ok, next: at + 4 }
+        }
+        Short::Other => long_field_leads_on(image, starts, frame, up, slot, at),
+    }
+}
+
+// A field with its limit.
 fn field_leads_on(
     image: &[u8],
     starts: &[usize],
@@ -131,15 +154,12 @@ fn field_leads_on(
     at: usize,
 ) -> Led
     requires { ⌜ Promise (now image) (now starts) frame × (slot < frame .slots) ⌝ }
-    ensures { λ r. ⌜ ((x : Field) (end : ℕ) → read (fieldAt (frame .names)) (now (image .entry)) at ≡ done x end → (r .ok ≡ bareType (leadsOn up (schemaOf (now (image .entry))) slot) (x .type)) × (r .next ≡ end)) ⌝ }
+    ensures { λ r. ⌜ ((x : Field) (end : ℕ) → read (fieldAt (frame .edition) (frame .names)) (now (image .entry)) at ≡ done x end → (r .ok ≡ bareType (leadsOn up (schemaOf (frame .edition) (now (image .entry))) slot) (x .type)) × (r .next ≡ end)) ⌝ }
 {
-    match slot::short_field(image, at, frame.names) {
-        Short::Is(_, kind, number) => {
-            let ok = leaf_leads_on(image, starts, frame, up, slot, kind, number);
-            Led { ok, next: at + 4 }
-        }
-        Short::Other => long_field_leads_on(image, starts, frame, up, slot, at),
-    }
+    let typed = field_type_leads_on(image, starts, frame, up, slot, at);
+    let edition = frame.edition;
+    let next = view::place_of(slot::skip_limit(image, Next::At(typed.next), edition));
+    Led { ok: typed.ok, next }
 }
 
 // Fields: their count, and the fields.
@@ -152,7 +172,7 @@ fn fields_lead_on(
     at: usize,
 ) -> bool
     requires { ⌜ Promise (now image) (now starts) frame × (slot < frame .slots) ⌝ }
-    ensures { λ r. ⌜ ((fs : List Field) (end : ℕ) → read (fieldsAt (frame .names)) (now (image .entry)) at ≡ done fs end → r ≡ bareFields (leadsOn up (schemaOf (now (image .entry))) slot) fs) ⌝ }
+    ensures { λ r. ⌜ ((fs : List Field) (end : ℕ) → read (fieldsAt (frame .edition) (frame .names)) (now (image .entry)) at ≡ done fs end → r ≡ bareFields (leadsOn up (schemaOf (frame .edition) (now (image .entry))) slot) fs) ⌝ }
 {
     let Ranged::Value(count, first) = number::read_below(image, at, 65537) else {
         return true;
@@ -172,7 +192,7 @@ fn fields_lead_on(
 
 fn slot_leads_on(image: &[u8], starts: &[usize], frame: Frame, up: bool, slot: usize) -> bool
     requires { ⌜ Promise (now image) (now starts) frame × (slot < frame .slots) ⌝ }
-    ensures { λ r. ⌜ r ≡ bareSlot (leadsOn up (schemaOf (now (image .entry))) slot) (slotOf (schemaOf (now (image .entry))) slot) ⌝ }
+    ensures { λ r. ⌜ r ≡ bareSlot (leadsOn up (schemaOf (frame .edition) (now (image .entry))) slot) (slotOf (schemaOf (frame .edition) (now (image .entry))) slot) ⌝ }
 {
     let Part::At(kind, body) = view::slot_part(image, starts, slot) else {
         return true;
@@ -193,7 +213,7 @@ fn slot_leads_on(image: &[u8], starts: &[usize], frame: Frame, up: bool, slot: u
 // Do all bare names lead to earlier slots, or `up`, to later ones?
 fn goes_one_way(image: &[u8], starts: &[usize], frame: Frame, up: bool) -> bool
     requires { ⌜ Promise (now image) (now starts) frame ⌝ }
-    ensures { λ r. ⌜ r ≡ ordered up (schemaOf (now (image .entry))) ⌝ }
+    ensures { λ r. ⌜ r ≡ ordered up (schemaOf (frame .edition) (now (image .entry))) ⌝ }
 {
     let slots = frame.slots as usize;
     let mut i: usize = 0;
@@ -210,7 +230,7 @@ fn goes_one_way(image: &[u8], starts: &[usize], frame: Frame, up: bool) -> bool
 // Do the slots stand in an order: by bare names that all lead to earlier slots, or all to later ones?
 pub fn is_ordered(image: &[u8], starts: &[usize], frame: Frame) -> bool
     requires { ⌜ Promise (now image) (now starts) frame ⌝ }
-    ensures { λ r. ⌜ r ≡ isOrdered (schemaOf (now (image .entry))) ⌝ }
+    ensures { λ r. ⌜ r ≡ isOrdered (schemaOf (frame .edition) (now (image .entry))) ⌝ }
 {
     if goes_one_way(image, starts, frame, false) {
         return true;

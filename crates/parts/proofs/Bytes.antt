@@ -14,9 +14,10 @@ use Rattle.tree.specs.TreeAt.{Node, none, one, two, sized, applied, subByteAt, 
 use Rattle.tree.specs.Encoding.{encodingAt}
 use Rattle.tree.specs.declared.Sort.the-variants.{Resolved}
 use Rattle.tree.proofs.Ranges.{each}
-use Rattle.slot.specs.Field.{typeAt, spanAt, storedAt, fieldAt, fieldsAt}
+use Rattle.slot.specs.Field.{typeAt, spanAt, storedAt, limitAt, fieldAt, fieldsAt}
 use Rattle.slot.specs.Slot.{Slot, empty, message, enum, flags, union, newtype, config, alias, trait, impl, slotKind, Message, messageAt, Union, unionAt, Newtype, newtypeAt, slotBodyAt, slotAt}
 use Rattle.slot.proofs.Whole.{made-of, slot-parts, field-parts}
+use Rattle.slot.specs.declared.Edition.{Edition}
 use Rattle.view.proofs.Onward.{goes-on}
 use Rattle.parts.specs.Names.{allOf, leafNames, typeNames, fieldNames, variantNames, slotNames}
 use Rattle.parts.specs.Lists.{levelsAt}
@@ -149,30 +150,30 @@ module _ (s : List ℕ) where
 
   -- ## Slots
 
-  field-bytes : (names top : ℕ) → Costs s (fieldAt names) (fieldNames top)
-  field-bytes names top at x end e =
-      let p = field-parts s names at x end e in
-      omega (arith, below-is s at names (x .fieldName) (p .coded) (p .nameRead) .after, goes-on (encodingAt 32) s (p .coded) (p .encodingRead) .forward, type-bytes names 32 top (p .typed) (x .type) end (p .typeRead))
+  field-bytes : (ed : Edition) (names top : ℕ) → Costs s (fieldAt ed names) (fieldNames top)
+  field-bytes ed names top at x end e =
+      let p = field-parts s ed names at x end e in
+      omega (arith, below-is s at names (x .fieldName) (p .coded) (p .nameRead) .after, goes-on (encodingAt 32) s (p .coded) (p .encodingRead) .forward, type-bytes names 32 top (p .typed) (x .type) (p .behind) (p .typeRead), goes-on (limitAt ed) s (p .behind) (p .limitRead) .forward)
 
-  fields-bytes : (names top : ℕ) → Costs s (fieldsAt names) (allOf (fieldNames top))
-  fields-bytes names top = counted-bytes (fieldAt names) (fieldNames top) (field-bytes names top)
+  fields-bytes : (ed : Edition) (names top : ℕ) → Costs s (fieldsAt ed names) (allOf (fieldNames top))
+  fields-bytes ed names top = counted-bytes (fieldAt ed names) (fieldNames top) (field-bytes ed names top)
 
-  message-bytes : (names : ℕ) → Costs s (messageAt names) (λ m. allOf (fieldNames 1) (m .fields))
+  message-bytes : (ed : Edition) (names : ℕ) → Costs s (messageAt ed names) (λ m. allOf (fieldNames 1) (m .fields))
   unfolding messageAt read
-  message-bytes names at x end e =
+  message-bytes ed names at x end e =
       let u = read-done spanAt _ s at x end e in
       let v = read-done storedAt _ s (u .middle) x end (u .rest) in
-      let w = read-done (fieldsAt names) _ s (v .middle) x end (v .rest) in
+      let w = read-done (fieldsAt ed names) _ s (v .middle) x end (v .rest) in
       let g = given (w .rest) in
-      rw (← g .0) (omega (arith, goes-on spanAt s at (u .here) .forward, goes-on storedAt s (u .middle) (v .here) .forward, fields-bytes names 1 (v .middle) (w .first) (w .middle) (w .here), g .1))
+      rw (← g .0) (omega (arith, goes-on spanAt s at (u .here) .forward, goes-on storedAt s (u .middle) (v .here) .forward, fields-bytes ed names 1 (v .middle) (w .first) (w .middle) (w .here), g .1))
 
-  union-bytes : (names : ℕ) → Costs s (unionAt names) (λ u. allOf variantNames (u .variants))
+  union-bytes : (ed : Edition) (names : ℕ) → Costs s (unionAt ed names) (λ u. allOf variantNames (u .variants))
   unfolding unionAt read
-  union-bytes names at x end e =
+  union-bytes ed names at x end e =
       let v = read-done storedAt _ s at x end e in
-      let w = read-done (counted (fieldsAt names)) _ s (v .middle) x end (v .rest) in
+      let w = read-done (counted (fieldsAt ed names)) _ s (v .middle) x end (v .rest) in
       let g = given (w .rest) in
-      rw (← g .0) (omega (arith, goes-on storedAt s at (v .here) .forward, counted-bytes (fieldsAt names) variantNames (fields-bytes names 0) (v .middle) (w .first) (w .middle) (w .here), g .1))
+      rw (← g .0) (omega (arith, goes-on storedAt s at (v .here) .forward, counted-bytes (fieldsAt ed names) variantNames (fields-bytes ed names 0) (v .middle) (w .first) (w .middle) (w .here), g .1))
 
   newtype-bytes : (names : ℕ) → Costs s (newtypeAt names) (λ n. typeNames 1 (n .inner))
   unfolding newtypeAt read
@@ -182,42 +183,42 @@ module _ (s : List ℕ) where
       let g = given (w .rest) in
       rw (← g .0) (omega (arith, type-bytes names 32 1 at (v .first) (v .middle) (v .here), goes-on (typeAt names) s (v .middle) (w .here) .forward, g .1))
 
-  body-bytes : (names at : ℕ) (x : Slot) (end : ℕ) → read (slotBodyAt names (slotKind x)) s at ≡ done x end → at + 2 * length (slotNames x) ≤ end
+  body-bytes : (ed : Edition) (names at : ℕ) (x : Slot) (end : ℕ) → read (slotBodyAt ed names (slotKind x)) s at ≡ done x end → at + 2 * length (slotNames x) ≤ end
   unfolding slotBodyAt slotNames
-  body-bytes names at (message m) end e =
-      let d = made-of s message (messageAt names) at (message m) end e in
+  body-bytes ed names at (message m) end e =
+      let d = made-of s message (messageAt ed names) at (message m) end e in
       let q : d .held ≡ m = let p = d .slotIs in cc in
-      subst (λ (y : Message). at + 2 * length (allOf (fieldNames 1) (y .fields)) ≤ end) q (message-bytes names at (d .held) end (d .reads))
-  body-bytes names at (union u) end e =
-      let d = made-of s union (unionAt names) at (union u) end e in
+      subst (λ (y : Message). at + 2 * length (allOf (fieldNames 1) (y .fields)) ≤ end) q (message-bytes ed names at (d .held) end (d .reads))
+  body-bytes ed names at (union u) end e =
+      let d = made-of s union (unionAt ed names) at (union u) end e in
       let q : d .held ≡ u = let p = d .slotIs in cc in
-      subst (λ (y : Union). at + 2 * length (allOf variantNames (y .variants)) ≤ end) q (union-bytes names at (d .held) end (d .reads))
-  body-bytes names at (newtype n) end e =
+      subst (λ (y : Union). at + 2 * length (allOf variantNames (y .variants)) ≤ end) q (union-bytes ed names at (d .held) end (d .reads))
+  body-bytes ed names at (newtype n) end e =
       let d = made-of s newtype (newtypeAt names) at (newtype n) end e in
       let q : d .held ≡ n = let p = d .slotIs in cc in
       subst (λ (y : Newtype). at + 2 * length (typeNames 1 (y .inner)) ≤ end) q (newtype-bytes names at (d .held) end (d .reads))
-  body-bytes names at empty end e = omega (arith, goes-on (slotBodyAt names 0) s at e .forward)
-  body-bytes names at (enum x) end e = omega (arith, goes-on (slotBodyAt names 2) s at e .forward)
-  body-bytes names at (flags x) end e = omega (arith, goes-on (slotBodyAt names 3) s at e .forward)
-  body-bytes names at config end e = omega (arith, goes-on (slotBodyAt names 6) s at e .forward)
-  body-bytes names at (alias x) end e = omega (arith, goes-on (slotBodyAt names 7) s at e .forward)
-  body-bytes names at (trait x) end e = omega (arith, goes-on (slotBodyAt names 8) s at e .forward)
-  body-bytes names at (impl x) end e = omega (arith, goes-on (slotBodyAt names 9) s at e .forward)
+  body-bytes ed names at empty end e = omega (arith, goes-on (slotBodyAt ed names 0) s at e .forward)
+  body-bytes ed names at (enum x) end e = omega (arith, goes-on (slotBodyAt ed names 2) s at e .forward)
+  body-bytes ed names at (flags x) end e = omega (arith, goes-on (slotBodyAt ed names 3) s at e .forward)
+  body-bytes ed names at config end e = omega (arith, goes-on (slotBodyAt ed names 6) s at e .forward)
+  body-bytes ed names at (alias x) end e = omega (arith, goes-on (slotBodyAt ed names 7) s at e .forward)
+  body-bytes ed names at (trait x) end e = omega (arith, goes-on (slotBodyAt ed names 8) s at e .forward)
+  body-bytes ed names at (impl x) end e = omega (arith, goes-on (slotBodyAt ed names 9) s at e .forward)
 
-  slot-bytes : (names : ℕ) → Costs s (slotAt names) slotNames
-  slot-bytes names at x end e =
-      let p = slot-parts s names at x end e in
+  slot-bytes : (ed : Edition) (names : ℕ) → Costs s (slotAt ed names) slotNames
+  slot-bytes ed names at x end e =
+      let p = slot-parts s ed names at x end e in
       let b = below-is s at 10 (slotKind x) (p .body) (p .kindRead) in
-      omega (arith, b .after, body-bytes names (p .body) x end (p .bodyRead))
+      omega (arith, b .after, body-bytes ed names (p .body) x end (p .bodyRead))
 
   -- the names of a run of slots
-  pub names-fit : (names left at : ℕ) (xs : List Slot) (end : ℕ) → read (many left (slotAt names)) s at ≡ done xs end → 2 * length (allOf slotNames xs) ≤ length s
+  pub names-fit : (ed : Edition) (names left at : ℕ) (xs : List Slot) (end : ℕ) → read (many left (slotAt ed names)) s at ≡ done xs end → 2 * length (allOf slotNames xs) ≤ length s
   unfolding many read allOf
-  names-fit names zero at xs end e = rw (← given e .0) (omega arith)
-  names-fit names (suc left) at xs end e =
-      let w = front (slotAt names) s left at xs end e in
-      let p = slot-parts s names at (w .first) (w .middle) (w .here) in
+  names-fit ed names zero at xs end e = rw (← given e .0) (omega arith)
+  names-fit ed names (suc left) at xs end e =
+      let w = front (slotAt ed names) s left at xs end e in
+      let p = slot-parts s ed names at (w .first) (w .middle) (w .here) in
       let b = below-is s at 10 _ (p .body) (p .kindRead) in
-      let c = many-bytes (slotAt names) slotNames (slot-bytes names) (suc left) at xs end e in
-      let o = goes-on (many (suc left) (slotAt names)) s at e .within (omega (arith, b .after, b .within)) in
+      let c = many-bytes (slotAt ed names) slotNames (slot-bytes ed names) (suc left) at xs end e in
+      let o = goes-on (many (suc left) (slotAt ed names)) s at e .within (omega (arith, b .after, b .within)) in
       omega (arith, c, o)

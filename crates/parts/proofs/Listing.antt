@@ -16,10 +16,13 @@ use Rattle.tree.specs.Encoding.{encodingAt}
 use Rattle.tree.specs.declared.Sort.the-variants.{Resolved}
 use Rattle.tree.specs.declared.Head.{Head}
 use Rattle.tree.proofs.Shapes.{tree-deep, parts}
-use Rattle.slot.specs.Field.{typeAt, Field, fieldAt, fieldsAt}
+use Rattle.slot.specs.Field.{typeAt, limitAt, Field, fieldAt, fieldsAt}
 use Rattle.slot.specs.Slot.{Slot, empty, message, enum, flags, union, newtype, config, alias, trait, impl, slotKind, Message, messageAt, Union, unionAt, newtypeAt, slotBodyAt}
 use Rattle.slot.proofs.Whole.{made-of}
+use Rattle.slot.specs.declared.Edition.{Edition}
+use Rattle.view.specs.Take.{placeOf}
 use Rattle.view.proofs.Places.{at-same, at-not, inner-stands, type-stands}
+use Rattle.view.proofs.Taking.{placed}
 use Rattle.view.proofs.Fetching.{Behind, body-at}
 use Rattle.parts.specs.Names.{allOf, leafNames, typeNames, fieldNames, variantNames, slotNames, isMessage}
 use Rattle.parts.specs.Lists.{Filled, filled, push, pushAll, levelsAt, Lists, ListsSlot}
@@ -146,19 +149,31 @@ module _ (names : ℕ) (s : List ℕ) (at levels top : ℕ) (x : Filled) where
 -- ## A field
 
 module _ (names : ℕ) (s : List ℕ) (at : ℕ) where
+  -- a field's type stands at p, and the limit behind it
+  abbrev pub TypeAt : (p : ℕ) → Type 0
+  TypeAt p = (ed : Edition) (x : Field) (end : ℕ) → read (fieldAt ed names) s at ≡ done x end
+      → (n : ℕ) × (read (typeAt names) s p ≡ done (x .type) n) × (read (limitAt ed) s n ≡ done (x .limit) end)
+
   module _ (a b : Next) (p : a ≡ next (below names s at)) (q : b ≡ follow a (λ n. next (read (encodingAt 32) s n))) where
-    pub type-at : (k : ℕ) → b ≡ Next.At k → (x : Field) (end : ℕ) → read (fieldAt names) s at ≡ done x end → read (typeAt names) s k ≡ done (x .type) end
-    type-at k e x end r =
-        let w = type-stands s names at x end r a b p q in
-        ap (read (typeAt names) s) (at-same e (w .1)) ∙ w .2
+    pub type-at : (k : ℕ) → b ≡ Next.At k → TypeAt k
+    type-at k e ed x end r =
+        let w = type-stands s ed names at x end r a b p q in
+        (w .2, ap (read (typeAt names) s) (at-same e (w .1)) ∙ w .3, w .4)
 
-    pub type-not : (r i k : ℕ) → b ≡ Next.Refused r i → (x : Field) (end : ℕ) → read (fieldAt names) s at ≡ done x end → read (typeAt names) s k ≡ done (x .type) end
-    type-not r i k e x end f = absurd (at-not e (type-stands s names at x end f a b p q .1))
+    pub type-not : (r i k : ℕ) → b ≡ Next.Refused r i → TypeAt k
+    type-not r i k e ed x end f = absurd (at-not e (type-stands s ed names at x end f a b p q .1))
 
-  -- a field, from where its type stands
-  pub list-field : (top p n : ℕ) (x y : Filled) → ((f : Field) (end : ℕ) → read (fieldAt names) s at ≡ done f end → read (typeAt names) s p ≡ done (f .type) end)
-      → Lists (levelsAt names 32) (typeNames top) s p x y n → Lists (fieldAt names) (fieldNames top) s at x y n
-  list-field top p n x y w i = record { listed = λ f end e. i .listed (f .type) end (w f end e) }
+  -- a field, from where its type stands, and the limit behind it
+  pub list-field : (ed : Edition) (top p n : ℕ) (x y : Filled) → TypeAt p → Lists (levelsAt names 32) (typeNames top) s p x y n
+      → (l : Next) (m : ℕ) → l ≡ follow (Next.At n) (λ k. next (read (limitAt ed) s k)) → m ≡ placeOf l → Lists (fieldAt ed names) (fieldNames top) s at x y m
+  unfolding follow
+  list-field ed top p n x y w i l m f g =
+      record {
+        listed = λ z end e.
+            let t = w ed z end e in
+            let u = i .listed (z .type) (t .0) (t .1) in
+            (u .0, placed g (f ∙ ap (λ (k : ℕ). next (read (limitAt ed) s k)) (u .1) ∙ ap next (t .2)));
+      }
 
 -- ## One thing after another
 
@@ -211,26 +226,26 @@ module _ {A : Type 0} (g : Grammar A) (f : A → List ℕ) (s : List ℕ) where
 
 -- ## A slot
 
-module _ (names : ℕ) (s : List ℕ) (x : Slot) (kind body : ℕ) (b : Behind names s x kind body) (t : Filled) where
+module _ (ed : Edition) (names : ℕ) (s : List ℕ) (x : Slot) (kind body : ℕ) (b : Behind ed names s x kind body) (t : Filled) where
   pub list-message : kind ≡ 1 → (p n : ℕ) (y : Filled)
-      → ((names : ℕ) (m : Message) (end : ℕ) → read (messageAt names) s body ≡ done m end → read (fieldsAt names) s p ≡ done (m .fields) end)
-      → Lists (fieldsAt names) (allOf (fieldNames 1)) s p t y n → ListsSlot x t y Bool.true
+      → ((ed : Edition) (names : ℕ) (m : Message) (end : ℕ) → read (messageAt ed names) s body ≡ done m end → read (fieldsAt ed names) s p ≡ done (m .fields) end)
+      → Lists (fieldsAt ed names) (allOf (fieldNames 1)) s p t y n → ListsSlot x t y Bool.true
   unfolding slotBodyAt slotNames
   list-message e p n y w i =
-      let m = made-of s message (messageAt names) body x (b .end) (body-at b 1 e) in
+      let m = made-of s message (messageAt ed names) body x (b .end) (body-at b 1 e) in
       record {
-        listed = i .listed (m .held .fields) (b .end) (w names (m .held) (b .end) (m .reads)) .0 ∙ sym (ap (λ (z : Slot). pushAll (slotNames z) t) (m .slotIs));
+        listed = i .listed (m .held .fields) (b .end) (w ed names (m .held) (b .end) (m .reads)) .0 ∙ sym (ap (λ (z : Slot). pushAll (slotNames z) t) (m .slotIs));
         marked = sym (ap isMessage (m .slotIs));
       }
 
   pub list-union : kind ≡ 4 → (p n : ℕ) (y : Filled)
-      → ((names : ℕ) (u : Union) (end : ℕ) → read (unionAt names) s body ≡ done u end → read (counted (fieldsAt names)) s p ≡ done (u .variants) end)
-      → Lists (counted (fieldsAt names)) (allOf variantNames) s p t y n → ListsSlot x t y Bool.false
+      → ((ed : Edition) (names : ℕ) (u : Union) (end : ℕ) → read (unionAt ed names) s body ≡ done u end → read (counted (fieldsAt ed names)) s p ≡ done (u .variants) end)
+      → Lists (counted (fieldsAt ed names)) (allOf variantNames) s p t y n → ListsSlot x t y Bool.false
   unfolding slotBodyAt slotNames
   list-union e p n y w i =
-      let m = made-of s union (unionAt names) body x (b .end) (body-at b 4 e) in
+      let m = made-of s union (unionAt ed names) body x (b .end) (body-at b 4 e) in
       record {
-        listed = i .listed (m .held .variants) (b .end) (w names (m .held) (b .end) (m .reads)) .0 ∙ sym (ap (λ (z : Slot). pushAll (slotNames z) t) (m .slotIs));
+        listed = i .listed (m .held .variants) (b .end) (w ed names (m .held) (b .end) (m .reads)) .0 ∙ sym (ap (λ (z : Slot). pushAll (slotNames z) t) (m .slotIs));
         marked = sym (ap isMessage (m .slotIs));
       }
 

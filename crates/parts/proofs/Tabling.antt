@@ -133,49 +133,49 @@ module _ (xs : List Slot) (x : Slot) (messages : List Bool) (first before parts 
 -- the slots before i are listed
 pub record Sofar (s : List ℕ) (f : Frame) (messages : List Bool) (first before parts : List ℕ) (used i : ℕ) : Type 0 where
   pub few : i ≤ f .slots
-  pub fill : used ≡ length (allOf slotNames (take i (schemaOf s .slots)))
-  pub tabled : Tabled (take i (schemaOf s .slots)) messages first before parts
+  pub fill : used ≡ length (allOf slotNames (take i (schemaOf (f .edition) s .slots)))
+  pub tabled : Tabled (take i (schemaOf (f .edition) s .slots)) messages first before parts
 
 module _ (s starts : List ℕ) (f : Frame) (messages₀ : List Bool) (first₀ before : List ℕ) (p : Listable s starts f messages₀ first₀ before) where
-  pub all-fit : length (allOf slotNames (schemaOf s .slots)) ≤ length before
+  pub all-fit : length (allOf slotNames (schemaOf (f .edition) s .slots)) ≤ length before
   all-fit =
       let r = p .promise .run in
-      omega (arith, names-fit s (f .names) (f .slots) (r .0) (schemaOf s .slots) (r .1) (r .2), p .room)
+      omega (arith, names-fit s (f .edition) (f .names) (f .slots) (r .0) (schemaOf (f .edition) s .slots) (r .1) (r .2), p .room)
 
   pub sofar-start : Sofar s f messages₀ first₀ before before 0 0
   unfolding allOf
   sofar-start = record { few = omega arith; fill = refl; tabled = tabled-none messages₀ first₀ before (p .marks) (p .places) }
 
   module _ (messages : List Bool) (first parts : List ℕ) (used i : ℕ) (h : i < f .slots) (t : Sofar s f messages first before parts used i)
-      (m : Bool) (used′ : ℕ) (parts′ : List ℕ) (l : ListsSlot (slotOf (schemaOf s) i) (filled parts used) (filled parts′ used′) m) where
-    next-slot : take (i + 1) (schemaOf s .slots) ≡ take i (schemaOf s .slots) ++ (slotOf (schemaOf s) i ∷ [])
+      (m : Bool) (used′ : ℕ) (parts′ : List ℕ) (l : ListsSlot (slotOf (schemaOf (f .edition) s) i) (filled parts used) (filled parts′ used′) m) where
+    next-slot : take (i + 1) (schemaOf (f .edition) s .slots) ≡ take i (schemaOf (f .edition) s .slots) ++ (slotOf (schemaOf (f .edition) s) i ∷ [])
     unfolding slotOf
-    next-slot = ap (λ (n : ℕ). take n (schemaOf s .slots)) (add-one i) ∙ take-suc (schemaOf s .slots) i empty (omega (arith, p .promise .count))
+    next-slot = ap (λ (n : ℕ). take n (schemaOf (f .edition) s .slots)) (add-one i) ∙ take-suc (schemaOf (f .edition) s .slots) i empty (omega (arith, p .promise .count))
 
-    so-long : length (take i (schemaOf s .slots)) ≡ i
-    so-long = length-take-le i (schemaOf s .slots) (omega (arith, p .promise .count))
+    so-long : length (take i (schemaOf (f .edition) s .slots)) ≡ i
+    so-long = length-take-le i (schemaOf (f .edition) s .slots) (omega (arith, p .promise .count))
 
-    with-room : length (allOf slotNames (take i (schemaOf s .slots) ++ (slotOf (schemaOf s) i ∷ []))) ≤ length before
+    with-room : length (allOf slotNames (take i (schemaOf (f .edition) s .slots) ++ (slotOf (schemaOf (f .edition) s) i ∷ []))) ≤ length before
     with-room =
         let q = ap (λ (y : List Slot). length (allOf slotNames y)) next-slot in
-        omega (arith, all-fit, all-front slotNames (i + 1) (schemaOf s .slots))
+        omega (arith, all-fit, all-front slotNames (i + 1) (schemaOf (f .edition) s .slots))
 
-    now-used : used′ ≡ length (allOf slotNames (take i (schemaOf s .slots) ++ (slotOf (schemaOf s) i ∷ [])))
-    now-used = used-next (take i (schemaOf s .slots)) (slotOf (schemaOf s) i) messages first before parts (t .tabled) used (t .fill) m used′ parts′ l with-room
+    now-used : used′ ≡ length (allOf slotNames (take i (schemaOf (f .edition) s .slots) ++ (slotOf (schemaOf (f .edition) s) i ∷ [])))
+    now-used = used-next (take i (schemaOf (f .edition) s .slots)) (slotOf (schemaOf (f .edition) s) i) messages first before parts (t .tabled) used (t .fill) m used′ parts′ l with-room
 
     pub small-used : used′ ≤ 32768
     small-used = omega (arith, now-used, with-room, p .few)
 
     pub sofar-on : Sofar s f (set messages i m) (set first (i + 1) used′) before parts′ used′ (i + 1)
     sofar-on =
-        let w = tabled-on (take i (schemaOf s .slots)) (slotOf (schemaOf s) i) messages first before parts (t .tabled) used (t .fill) m used′ parts′ l with-room (omega (arith, so-long, p .promise .few)) in
+        let w = tabled-on (take i (schemaOf (f .edition) s .slots)) (slotOf (schemaOf (f .edition) s) i) messages first before parts (t .tabled) used (t .fill) m used′ parts′ l with-room (omega (arith, so-long, p .promise .few)) in
         record {
           few = omega arith;
           fill = now-used ∙ ap (λ (y : List Slot). length (allOf slotNames y)) (sym next-slot);
           tabled = subst (λ (y : List Slot). Tabled y (set messages i m) (set first (i + 1) used′) before parts′) (sym next-slot)
-              (subst (λ (n : ℕ). Tabled (take i (schemaOf s .slots) ++ (slotOf (schemaOf s) i ∷ [])) (set messages n m) (set first (n + 1) used′) before parts′) so-long w);
+              (subst (λ (n : ℕ). Tabled (take i (schemaOf (f .edition) s .slots) ++ (slotOf (schemaOf (f .edition) s) i ∷ [])) (set messages n m) (set first (n + 1) used′) before parts′) so-long w);
         }
 
-  pub sofar-end : (messages : List Bool) (first parts : List ℕ) (used i : ℕ) → f .slots ≤ i → Sofar s f messages first before parts used i → Tabled (schemaOf s .slots) messages first before parts
+  pub sofar-end : (messages : List Bool) (first parts : List ℕ) (used i : ℕ) → f .slots ≤ i → Sofar s f messages first before parts used i → Tabled (schemaOf (f .edition) s .slots) messages first before parts
   sofar-end messages first parts used i h t =
-      subst (λ (y : List Slot). Tabled y messages first before parts) (take-all i (schemaOf s .slots) (omega (arith, p .promise .count))) (t .tabled)
+      subst (λ (y : List Slot). Tabled y messages first before parts) (take-all i (schemaOf (f .edition) s .slots) (omega (arith, p .promise .count))) (t .tabled)

@@ -2,13 +2,15 @@
 use image::Frame;
 use number::Next;
 use number::Ranged;
+use slot::Edition;
 use tree::Head;
 use tree::Sort;
 use view::Part;
 ghost use mathlib.Core.Path.{_≡_};
 ghost use Prim.Native.Nat.{ℕ, _≤_, _<_};
 ghost use Rattle.number.specs.Grammar.{counted, done, read};
-ghost use Rattle.slot.specs.Field.{typeAt, Field, fieldAt, fieldsAt};
+ghost use Rattle.slot.specs.Field.{typeAt, limitAt, Field, fieldAt, fieldsAt};
+ghost use Rattle.slot.specs.declared.Edition.{Edition};
 ghost use Rattle.image.specs.Schema.{slotOf};
 ghost use Rattle.reader.specs.Reading.{schemaOf};
 ghost use Rattle.reader.specs.Promise.{Promise};
@@ -92,9 +94,9 @@ fn list_type(
     }
 }
 
-// Where the type of a field stands.
+// Where the type of a field stands. The limit follows the type.
 fn type_place(image: &[u8], at: usize, names: u64) -> usize
-    ensures { λ r. ⌜ ((x : Field) (end : ℕ) → read (fieldAt names) (now (image .entry)) at ≡ done x end → read (typeAt names) (now (image .entry)) r ≡ done (x .type) end) ⌝ }
+    ensures { λ r. ⌜ ((ed : Edition) (x : Field) (end : ℕ) → read (fieldAt ed names) (now (image .entry)) at ≡ done x end → (n : ℕ) × (read (typeAt names) (now (image .entry)) r ≡ done (x .type) n) × (read (limitAt ed) (now (image .entry)) n ≡ done (x .limit) end)) ⌝ }
 {
     let name = number::skip_below(image, at, names);
     match tree::skip_encoding(image, name) {
@@ -107,13 +109,14 @@ fn type_place(image: &[u8], at: usize, names: u64) -> usize
 fn list_fields(
     image: &[u8],
     at: usize,
+    edition: Edition,
     names: u64,
     top: u16,
     parts: &mut [u16],
     used: usize,
 ) -> Listed
     requires { ⌜ top ≤ 1 ⌝ }
-    ensures { λ r. ⌜ Lists (fieldsAt names) (allOf (fieldNames top)) (now (image .entry)) at (filled (now (parts .entry)) used) (filled (now (parts .exit)) (r .used)) (r .next) ⌝ }
+    ensures { λ r. ⌜ Lists (fieldsAt edition names) (allOf (fieldNames top)) (now (image .entry)) at (filled (now (parts .entry)) used) (filled (now (parts .exit)) (r .used)) (r .next) ⌝ }
 {
     let Ranged::Value(count, first) = number::read_below(image, at, 65537) else {
         return Listed { next: at, used };
@@ -124,7 +127,7 @@ fn list_fields(
     while 0 < left {
         let place = type_place(image, here, names);
         let a = list_type(image, place, 32, names, top, parts, taken);
-        here = a.next;
+        here = view::place_of(slot::skip_limit(image, Next::At(a.next), edition));
         taken = a.used;
         left -= 1;
     }
@@ -135,8 +138,15 @@ fn list_fields(
 }
 
 // Variants: their count, and the fields of each.
-fn list_variants(image: &[u8], at: usize, names: u64, parts: &mut [u16], used: usize) -> Listed
-    ensures { λ r. ⌜ Lists (counted (fieldsAt names)) (allOf variantNames) (now (image .entry)) at (filled (now (parts .entry)) used) (filled (now (parts .exit)) (r .used)) (r .next) ⌝ }
+fn list_variants(
+    image: &[u8],
+    at: usize,
+    edition: Edition,
+    names: u64,
+    parts: &mut [u16],
+    used: usize,
+) -> Listed
+    ensures { λ r. ⌜ Lists (counted (fieldsAt edition names)) (allOf variantNames) (now (image .entry)) at (filled (now (parts .entry)) used) (filled (now (parts .exit)) (r .used)) (r .next) ⌝ }
 {
     let Ranged::Value(count, first) = number::read_below(image, at, 65537) else {
         return Listed { next: at, used };
@@ -145,7 +155,7 @@ fn list_variants(image: &[u8], at: usize, names: u64, parts: &mut [u16], used: u
     let mut here = first;
     let mut taken = used;
     while 0 < left {
-        let a = list_fields(image, here, names, 0, parts, taken);
+        let a = list_fields(image, here, edition, names, 0, parts, taken);
         here = a.next;
         taken = a.used;
         left -= 1;
@@ -166,7 +176,7 @@ fn list_slot(
     used: usize,
 ) -> Slotted
     requires { ⌜ Promise (now image) (now starts) frame × (slot < frame .slots) ⌝ }
-    ensures { λ r. ⌜ ListsSlot (slotOf (schemaOf (now (image .entry))) slot) (filled (now (parts .entry)) used) (filled (now (parts .exit)) (r .used)) (r .message) ⌝ }
+    ensures { λ r. ⌜ ListsSlot (slotOf (schemaOf (frame .edition) (now (image .entry))) slot) (filled (now (parts .entry)) used) (filled (now (parts .exit)) (r .used)) (r .message) ⌝ }
 {
     let Part::At(kind, body) = view::slot_part(image, starts, slot) else {
         return Slotted {
@@ -174,10 +184,11 @@ fn list_slot(
             used,
         };
     };
+    let edition = frame.edition;
     match kind {
         1 => {
             let place = view::slot_inside(image, starts, slot);
-            let a = list_fields(image, place, frame.names, 1, parts, used);
+            let a = list_fields(image, place, edition, frame.names, 1, parts, used);
             Slotted {
                 message: true,
                 used: a.used,
@@ -185,7 +196,7 @@ fn list_slot(
         }
         4 => {
             let place = view::slot_inside(image, starts, slot);
-            let a = list_variants(image, place, frame.names, parts, used);
+            let a = list_variants(image, place, edition, frame.names, parts, used);
             Slotted {
                 message: false,
                 used: a.used,
@@ -215,7 +226,7 @@ pub fn list_slots(
     parts: &mut [u16],
 )
     requires { ⌜ Listable (now image) (now starts) frame (now messages) (now first) (now parts) ⌝ }
-    ensures { λ _. ⌜ Tabled (schemaOf (now (image .entry)) .slots) (now (messages .exit)) (now (first .exit)) (now (parts .entry)) (now (parts .exit)) ⌝ }
+    ensures { λ _. ⌜ Tabled (schemaOf (frame .edition) (now (image .entry)) .slots) (now (messages .exit)) (now (first .exit)) (now (parts .entry)) (now (parts .exit)) ⌝ }
 {
     let count = frame.slots as usize;
     let mut used: usize = 0;

@@ -21,16 +21,16 @@ module _ (s starts : List ℕ) (f : Frame) (promise : Promise s starts f) (k : �
     in-table = omega (arith, promise .room)
 
     -- the part of each slot is there
-    pub part-is : (body : ℕ) × (partAt s starts k ≡ Part.At (slotKind (slotOf (schemaOf s) k)) body)
-        × Behind (f .names) s (slotOf (schemaOf s) k) (slotKind (slotOf (schemaOf s) k)) body
-    part-is = let r = promise .slots k h in part-there (f .names) s starts k in-table _ (r .0) (r .1)
+    pub part-is : (body : ℕ) × (partAt s starts k ≡ Part.At (slotKind (slotOf (schemaOf (f .edition) s) k)) body)
+        × Behind (f .edition) (f .names) s (slotOf (schemaOf (f .edition) s) k) (slotKind (slotOf (schemaOf (f .edition) s) k)) body
+    part-is = let r = promise .slots k h in part-there (f .edition) (f .names) s starts k in-table _ (r .0) (r .1)
 
     -- what the answer of fetching it says
-    pub part-behind : (kind body : ℕ) → partAt s starts k ≡ Part.At kind body → Behind (f .names) s (slotOf (schemaOf s) k) kind body
-    part-behind = let r = promise .slots k h in part-holds (f .names) s starts k in-table _ (r .0) (r .1)
+    pub part-behind : (kind body : ℕ) → partAt s starts k ≡ Part.At kind body → Behind (f .edition) (f .names) s (slotOf (schemaOf (f .edition) s) k) kind body
+    part-behind = let r = promise .slots k h in part-holds (f .edition) (f .names) s starts k in-table _ (r .0) (r .1)
 
     pub not-missing : partAt s starts k ≡ Part.Missing → ⊥
-    not-missing = let r = promise .slots k h in not-absent (f .names) s starts k in-table _ (r .0) (r .1)
+    not-missing = let r = promise .slots k h in not-absent (f .edition) (f .names) s starts k in-table _ (r .0) (r .1)
 
   -- a part is missing exactly where there is no such slot
   pub missing-is : (partAt s starts k ≡ Part.Missing → f .slots ≤ k) × (f .slots ≤ k → partAt s starts k ≡ Part.Missing)

@@ -3,3 +3,4 @@ pub mod Telling
 pub mod Losing
 pub mod Judging
 pub mod Fetching
+pub mod Plain

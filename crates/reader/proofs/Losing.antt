@@ -12,6 +12,7 @@ use borrow.Author.Tests.{lt-ltb}
 use Rattle.number.specs.Grammar.{slot, number, many, done, refused, below, read}
 use Rattle.number.proofs.Reading.{not-done, given, read-number, front, many-length}
 use Rattle.slot.specs.Slot.{Slot, empty, message, enum, flags, union, newtype, config, alias, trait, impl, slotKind, slotAt}
+use Rattle.slot.specs.declared.Edition.{Edition}
 use Rattle.view.specs.Part.{partAt}
 use Rattle.view.specs.declared.Part.{Part}
 use Rattle.view.proofs.Fetching.{past, part-there}
@@ -45,20 +46,20 @@ module _ (s starts : List ℕ) (find : ℕ) where
   unfolding lostAt
   lost-part h x e = let d : find ≡ suc (find - 1) = omega arith in sym (ap (lostAt s starts) d ∙ ap emptyPart e)
 
-module _ (names count : ℕ) (s starts : List ℕ) (l : Located names count s starts) where
-  pub slot-at : (i : ℕ) (h : i < count) (x : Slot) (end : ℕ) → read (slotAt names) s (getD starts i 0) ≡ done x end → slotsOf names count s starts i ≡ x
+module _ (ed : Edition) (names count : ℕ) (s starts : List ℕ) (l : Located ed names count s starts) where
+  pub slot-at : (i : ℕ) (h : i < count) (x : Slot) (end : ℕ) → read (slotAt ed names) s (getD starts i 0) ≡ done x end → slotsOf ed names count s starts i ≡ x
   unfolding slotsOf
   slot-at i h x end e = simp (lt-ltb i count h) (rw e)
 
   -- the slots' parts say which names are lost
-  pub lost-is : (find : ℕ) → lostAt s starts find ≡ lost (slotsOf names count s starts) find
+  pub lost-is : (find : ℕ) → lostAt s starts find ≡ lost (slotsOf ed names count s starts) find
   unfolding lostAt lost
   lost-is zero = refl
   lost-is (suc i) = by-cases (decLt i count)
       (λ h.
       let x = l .reads i h in
-      ap emptyPart (part-there names s starts i (omega (arith, l .room)) (x .0) (x .1) (x .2) .1) ∙ sym (empty-kind (x .0)) ∙ ap isEmpty (sym (slot-at i h (x .0) (x .1) (x .2))))
-      (λ h. ap emptyPart (sym (past s starts i (omega (arith, l .room)))) ∙ ap isEmpty (sym (slots-past names count s starts i (omega arith))))
+      ap emptyPart (part-there ed names s starts i (omega (arith, l .room)) (x .0) (x .1) (x .2) .1) ∙ sym (empty-kind (x .0)) ∙ ap isEmpty (sym (slot-at i h (x .0) (x .1) (x .2))))
+      (λ h. ap emptyPart (sym (past s starts i (omega (arith, l .room)))) ∙ ap isEmpty (sym (slots-past ed names count s starts i (omega arith))))
 
 -- the names from number n on, which are still to be looked at
 module _ (names : ℕ) (s : List ℕ) (at : ℕ) (slots : ℕ → Slot) where

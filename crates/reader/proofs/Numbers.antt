@@ -14,8 +14,10 @@ use Rattle.tree.specs.TreeAt.{Node, one, two, sized, applied, kindsOf, kindTabl
 use Rattle.tree.specs.Encoding.{default, varint, zigZag, delta, encodingFill, encodingAt}
 use Rattle.tree.specs.declared.Sort.{Sort}
 use Rattle.tree.specs.declared.Sort.the-variants.{Resolved, Expression}
-use Rattle.slot.specs.Field.{spanAt, storedTable, storedAt, fieldAt, fieldsAt}
-use Rattle.slot.specs.Slot.{Slot, messageAt, ordinalsAt, enumAt, flagsAt, unionAt, newtypeAt, aliasAt, traitFieldAt, traitAt, traitSpanAt, implAt, made, slotTable, slotBodyAt, slotAt}
+use Rattle.slot.specs.Field.{spanAt, storedTable, storedAt, limitAt, fieldAt, fieldsAt}
+use Rattle.slot.specs.Slot.{Slot, messageAt, retiredAt, ordinalsAt, enumAt, flagsAt, unionAt, newtypeAt, aliasAt, traitFieldAt, traitAt, traitSpanAt, implAt, made, slotTable, slotBodyAt, slotAt}
+use Rattle.slot.specs.declared.Edition.{Edition}
+use Rattle.slot.specs.declared.Edition.the-variants.{One, Two}
 use Rattle.image.specs.Image.{frontAt, placedAt, declaredAt, endAt, Image, imageAt, whole, imageOf}
 
 -- an outcome is no refusal past 6
@@ -147,13 +149,23 @@ stored-mild : Mild storedAt
 unfolding Mild storedAt _>>=_
 stored-mild = λ k. entry storedTable (tt, (λ b. tt, (λ m. tt, (λ m x. tt, tt)))) k
 
-fields-mild : (n : ℕ) → Mild (fieldsAt n)
-unfolding Mild fieldAt _>>=_
-fields-mild n = counts (fieldAt n) (λ v. bind (encodingAt 32) _ (encoding-mild 32) (λ e. bind (treeAt Resolved n 32) _ (tree-mild Resolved n 32) (λ t. tt)))
+limit-mild : (ed : Edition) → Mild (limitAt ed)
+unfolding Mild limitAt
+limit-mild One = tt
+limit-mild Two = λ l. tt
 
-ordinals-mild : Mild ordinalsAt
+fields-mild : (ed : Edition) (n : ℕ) → Mild (fieldsAt ed n)
+unfolding Mild fieldAt _>>=_
+fields-mild ed n = counts (fieldAt ed n) (λ v. bind (encodingAt 32) _ (encoding-mild 32) (λ e. bind (treeAt Resolved n 32) _ (tree-mild Resolved n 32) (λ t. bind (limitAt ed) _ (limit-mild ed) (λ l. tt))))
+
+retired-mild : (ed : Edition) → Mild (retiredAt ed)
+unfolding Mild retiredAt
+retired-mild One = tt
+retired-mild Two = counts (number value (2 ^ 32)) (λ v. tt)
+
+ordinals-mild : (ed : Edition) → Mild (ordinalsAt ed)
 unfolding Mild ordinalsAt
-ordinals-mild = bind (counted (number value (2 ^ 32))) _ (counts (number value (2 ^ 32)) (λ v. tt)) (λ os. tt)
+ordinals-mild ed = bind (counted (number value (2 ^ 32))) _ (counts (number value (2 ^ 32)) (λ v. tt)) (λ os. bind (retiredAt ed) _ (retired-mild ed) (λ rs. tt))
 
 trait-span-mild : Mild traitSpanAt
 unfolding Mild traitSpanAt spanAt _>>=_
@@ -164,9 +176,9 @@ slot-of : {A : Type 0} (f : A → Slot) (g : Grammar A) → Mild g → Mild (mad
 unfolding Mild
 slot-of f g l = bind g _ l (λ x. tt)
 
-slot-mild : (n : ℕ) → Mild (slotAt n)
+slot-mild : (ed : Edition) (n : ℕ) → Mild (slotAt ed n)
 unfolding Mild slotAt slotBodyAt messageAt spanAt enumAt flagsAt unionAt newtypeAt aliasAt traitAt traitFieldAt implAt _>>=_
-slot-mild n = λ k. entry (slotTable n) (tt, (slot-of Slot.message (messageAt n) messages, (slot-of Slot.enum enumAt enums, (slot-of Slot.flags flagsAt flags, (slot-of Slot.union (unionAt n) unions, (slot-of Slot.newtype (newtypeAt n) newtypes, (tt, (slot-of Slot.alias (aliasAt n) aliases, (slot-of Slot.trait (traitAt n) traits, (slot-of Slot.impl (implAt n) impls, tt)))))))))) k
+slot-mild ed n = λ k. entry (slotTable ed n) (tt, (slot-of Slot.message (messageAt ed n) messages, (slot-of Slot.enum (enumAt ed) enums, (slot-of Slot.flags (flagsAt ed) flags, (slot-of Slot.union (unionAt ed n) unions, (slot-of Slot.newtype (newtypeAt n) newtypes, (tt, (slot-of Slot.alias (aliasAt n) aliases, (slot-of Slot.trait (traitAt n) traits, (slot-of Slot.impl (implAt n) impls, tt)))))))))) k
   where
     type : Mild (treeAt Resolved n 32)
     type = tree-mild Resolved n 32
@@ -174,17 +186,17 @@ slot-mild n = λ k. entry (slotTable n) (tt, (slot-of Slot.message (messageAt n)
     expression : Mild (treeAt Expression n 32)
     expression = tree-mild Expression n 32
 
-    messages : Mild (messageAt n)
-    messages = λ o l. bind storedAt _ stored-mild (λ z. bind (fieldsAt n) _ (fields-mild n) (λ fs. tt))
+    messages : Mild (messageAt ed n)
+    messages = λ o l. bind storedAt _ stored-mild (λ z. bind (fieldsAt ed n) _ (fields-mild ed n) (λ fs. tt))
 
-    enums : Mild enumAt
-    enums = λ b x w. bind ordinalsAt _ ordinals-mild (λ os. tt)
+    enums : Mild (enumAt ed)
+    enums = λ b x w. bind (ordinalsAt ed) _ (ordinals-mild ed) (λ os. tt)
 
-    flags : Mild flagsAt
-    flags = λ w. bind ordinalsAt _ ordinals-mild (λ os. tt)
+    flags : Mild (flagsAt ed)
+    flags = λ w. bind (ordinalsAt ed) _ (ordinals-mild ed) (λ os. tt)
 
-    unions : Mild (unionAt n)
-    unions = bind storedAt _ stored-mild (λ z. bind (counted (fieldsAt n)) _ (counts (fieldsAt n) (fields-mild n)) (λ vs. tt))
+    unions : Mild (unionAt ed n)
+    unions = bind storedAt _ stored-mild (λ z. bind (counted (fieldsAt ed n)) _ (counts (fieldsAt ed n) (fields-mild ed n)) (λ vs. tt))
 
     newtypes : Mild (newtypeAt n)
     newtypes = bind (treeAt Resolved n 32) _ type (λ i. bind (treeAt Resolved n 32) _ type (λ t. tt))
@@ -202,24 +214,24 @@ front-mild : Mild frontAt
 unfolding Mild frontAt _>>=_
 front-mild = λ n p. bind (many n (number slot 513)) _ (run n (number slot 513) (λ v. tt)) (λ fs c. tt)
 
-placed-mild : (n : ℕ) → Mild (placedAt n)
+placed-mild : (ed : Edition) (n : ℕ) → Mild (placedAt ed n)
 unfolding Mild placedAt _>>=_
-placed-mild n = λ p. bind (slotAt n) _ (slot-mild n) (λ x. tt)
+placed-mild ed n = λ p. bind (slotAt ed n) _ (slot-mild ed n) (λ x. tt)
 
 declared-mild : Mild declaredAt
 unfolding Mild declaredAt _>>=_
 declared-mild = λ c p. bind (many c (number slot (2 ^ 32))) _ (run c (number slot (2 ^ 32)) (λ v. tt)) (λ ds. tt)
 
-image-mild : Mild imageAt
+image-mild : (ed : Edition) → Mild (imageAt ed)
 unfolding Mild imageAt endAt
-image-mild =
+image-mild ed =
     bind frontAt _ front-mild
-    (λ f. bind (many (f .slotCount) (placedAt (f .names))) _ (run (f .slotCount) (placedAt (f .names)) (placed-mild (f .names)))
+    (λ f. bind (many (f .slotCount) (placedAt ed (f .names))) _ (run (f .slotCount) (placedAt ed (f .names)) (placed-mild ed (f .names)))
     (λ ss. bind declaredAt _ declared-mild (λ d. tt)))
 
-pub image-low : (s : List ℕ) → Low (imageOf s)
+pub image-low : (ed : Edition) (s : List ℕ) → Low (imageOf ed s)
 unfolding imageOf whole
-image-low s = outer (ltb 65536 (length s))
+image-low ed s = outer (ltb 65536 (length s))
   where
     inner : (b : Bool) (i : Image) (n : ℕ) → Low (cond b (refused 6 n) (done i n))
     inner true i n = omega arith
@@ -229,6 +241,6 @@ image-low s = outer (ltb 65536 (length s))
     ends (done i n) l = inner (ltb n (length s)) i n
     ends (refused r p) l = l
 
-    outer : (b : Bool) → Low (cond b (refused 1 0) (whole s (read imageAt s 0)))
+    outer : (b : Bool) → Low (cond b (refused 1 0) (whole s (read (imageAt ed) s 0)))
     outer true = omega arith
-    outer false = ends (read imageAt s 0) (low-read imageAt s 0 image-mild)
+    outer false = ends (read (imageAt ed) s 0) (low-read (imageAt ed) s 0 (image-mild ed))

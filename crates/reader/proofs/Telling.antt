@@ -11,6 +11,7 @@ use Rattle.number.specs.Grammar.{Outcome, done, refused}
 use Rattle.tree.specs.declared.Sort.{Sort}
 use Rattle.tree.specs.declared.Sort.the-variants.{Resolved, Expression}
 use Rattle.slot.specs.Slot.{Slot, empty, message, enum, flags, union, newtype, config, alias, trait, impl}
+use Rattle.slot.specs.declared.Edition.{Edition}
 use Rattle.graph.specs.declared.Lowest.{Lowest}
 use Rattle.graph.specs.Loops.{lowest-has, none-has, has-lowest, has-none}
 use Rattle.image.specs.Schema.{Schema, slotOf}
@@ -179,66 +180,66 @@ module _ (S : Schema) (f : Frame) where
         (a .0, b .0, met 9 (Loops Expression) (Reading.Accepted f) p (not-refused f 9 p) (b .1))
 
 -- an image's answer
-module _ (s : List ℕ) where
-  module _ (w : Passes6 s) where
-    pub schema-read : judged (schemaOf s) (frameIn (w .image)) ≡ readingOf s
+module _ (ed : Edition) (s : List ℕ) where
+  module _ (w : Passes6 ed s) where
+    pub schema-read : judged (schemaOf ed s) (frameIn (w .image)) ≡ readingOf ed s
     unfolding readingOf schemaOf
     schema-read = ap (λ (o : Outcome Image). judged (schemaOr o) (frameIn (w .image))) (w .reads) ∙ sym (ap answered (w .reads))
 
-  read-6 : (r p : ℕ) → 6 < r → readingOf s ≡ Reading.Refused r p → Passes6 s
+  read-6 : (r p : ℕ) → 6 < r → readingOf ed s ≡ Reading.Refused r p → Passes6 ed s
   unfolding readingOf
-  read-6 r p h e = go (imageOf s) refl (image-low s) e
+  read-6 r p h e = go (imageOf ed s) refl (image-low ed s) e
     where
-      go : (o : Outcome Image) → imageOf s ≡ o → Low o → answered o ≡ Reading.Refused r p → Passes6 s
+      go : (o : Outcome Image) → imageOf ed s ≡ o → Low o → answered o ≡ Reading.Refused r p → Passes6 ed s
       go (done i n) x l e = record { image = i; end = n; reads = x }
       go (refused q n) x l e = let z : q ≡ r = cc in absurd (omega arith)
 
-  pub accepted-6 : (f : Frame) → readingOf s ≡ Reading.Accepted f → Passes6 s
+  pub accepted-6 : (f : Frame) → readingOf ed s ≡ Reading.Accepted f → Passes6 ed s
   unfolding readingOf
-  accepted-6 f e = go (imageOf s) refl e
+  accepted-6 f e = go (imageOf ed s) refl e
     where
-      go : (o : Outcome Image) → imageOf s ≡ o → answered o ≡ Reading.Accepted f → Passes6 s
+      go : (o : Outcome Image) → imageOf ed s ≡ o → answered o ≡ Reading.Accepted f → Passes6 ed s
       go (done i n) x e = record { image = i; end = n; reads = x }
       go (refused q n) x e = absurd (not-refused f q n (sym e))
 
-  passes-7 : Passes6 s → lostName (schemaOf s .finds) (slotOf (schemaOf s)) ≡ Lowest.Nowhere → Passes7 s
-  passes-7 w e = record { whole = w; names = names-none (schemaOf s) .0 e }
+  passes-7 : Passes6 ed s → lostName (schemaOf ed s .finds) (slotOf (schemaOf ed s)) ≡ Lowest.Nowhere → Passes7 ed s
+  passes-7 w e = record { whole = w; names = names-none (schemaOf ed s) .0 e }
 
-  passes-8 : Passes7 s → loopOf Resolved (schemaOf s .finds) (slotOf (schemaOf s)) (length (schemaOf s .slots)) ≡ Lowest.Nowhere → Passes8 s
-  passes-8 w e = record { before = w; newtypes = loops-none (schemaOf s) Resolved .0 e }
+  passes-8 : Passes7 ed s → loopOf Resolved (schemaOf ed s .finds) (slotOf (schemaOf ed s)) (length (schemaOf ed s .slots)) ≡ Lowest.Nowhere → Passes8 ed s
+  passes-8 w e = record { before = w; newtypes = loops-none (schemaOf ed s) Resolved .0 e }
 
-  seven : (n : ℕ) → (readingOf s ≡ Reading.Refused 7 n) ↔ (Passes6 s × LowestWith (Lost (schemaOf s)) n)
+  seven : (n : ℕ) → (readingOf ed s ≡ Reading.Refused 7 n) ↔ (Passes6 ed s × LowestWith (Lost (schemaOf ed s)) n)
   seven n = (
     λ e. let w = read-6 7 n (omega arith) e in
-        (w, names-at (schemaOf s) .0 (is-7 (schemaOf s) (frameIn (w .image)) n (schema-read w ∙ e))),
-    λ l. sym (refused-7 (schemaOf s) _ n (names-at (schemaOf s) .1 (l .1)) ∙ schema-read (l .0)),
+        (w, names-at (schemaOf ed s) .0 (is-7 (schemaOf ed s) (frameIn (w .image)) n (schema-read w ∙ e))),
+    λ l. sym (refused-7 (schemaOf ed s) _ n (names-at (schemaOf ed s) .1 (l .1)) ∙ schema-read (l .0)),
   )
 
-  eight : (x : ℕ) → (readingOf s ≡ Reading.Refused 8 x) ↔ (Passes7 s × LowestOnLoop Resolved (schemaOf s) x)
+  eight : (x : ℕ) → (readingOf ed s ≡ Reading.Refused 8 x) ↔ (Passes7 ed s × LowestOnLoop Resolved (schemaOf ed s) x)
   eight x = (
     λ e. let w = read-6 8 x (omega arith) e in
-        let a = is-8 (schemaOf s) (frameIn (w .image)) x (schema-read w ∙ e) in
-        (passes-7 w (a .0), loops-at (schemaOf s) Resolved .0 (a .1)),
-    λ l. sym (refused-8 (schemaOf s) _ (names-none (schemaOf s) .1 (l .0 .names)) x (loops-at (schemaOf s) Resolved .1 (l .1)) ∙ schema-read (l .0 .whole)),
+        let a = is-8 (schemaOf ed s) (frameIn (w .image)) x (schema-read w ∙ e) in
+        (passes-7 w (a .0), loops-at (schemaOf ed s) Resolved .0 (a .1)),
+    λ l. sym (refused-8 (schemaOf ed s) _ (names-none (schemaOf ed s) .1 (l .0 .names)) x (loops-at (schemaOf ed s) Resolved .1 (l .1)) ∙ schema-read (l .0 .whole)),
   )
 
-  nine : (x : ℕ) → (readingOf s ≡ Reading.Refused 9 x) ↔ (Passes8 s × LowestOnLoop Expression (schemaOf s) x)
+  nine : (x : ℕ) → (readingOf ed s ≡ Reading.Refused 9 x) ↔ (Passes8 ed s × LowestOnLoop Expression (schemaOf ed s) x)
   nine x = (
     λ e. let w = read-6 9 x (omega arith) e in
-        let a = is-9 (schemaOf s) (frameIn (w .image)) x (schema-read w ∙ e) in
-        (passes-8 (passes-7 w (a .0)) (a .1), loops-at (schemaOf s) Expression .0 (a .2)),
+        let a = is-9 (schemaOf ed s) (frameIn (w .image)) x (schema-read w ∙ e) in
+        (passes-8 (passes-7 w (a .0)) (a .1), loops-at (schemaOf ed s) Expression .0 (a .2)),
     λ l. let b = l .0 .before in
-        sym (refused-9 (schemaOf s) _ (names-none (schemaOf s) .1 (b .names)) x (loops-none (schemaOf s) Resolved .1 (l .0 .newtypes)) (loops-at (schemaOf s) Expression .1 (l .1)) ∙ schema-read (b .whole)),
+        sym (refused-9 (schemaOf ed s) _ (names-none (schemaOf ed s) .1 (b .names)) x (loops-none (schemaOf ed s) Resolved .1 (l .0 .newtypes)) (loops-at (schemaOf ed s) Expression .1 (l .1)) ∙ schema-read (b .whole)),
   )
 
-  accepted : ((f : Frame) × (readingOf s ≡ Reading.Accepted f)) ↔ Passes9 s
+  accepted : ((f : Frame) × (readingOf ed s ≡ Reading.Accepted f)) ↔ Passes9 ed s
   accepted = (
     λ a. let w = accepted-6 (a .0) (a .1) in
-        let c = clear (schemaOf s) (frameIn (w .image)) (a .0) (schema-read w ∙ a .1) in
-        record { before = passes-8 (passes-7 w (c .names)) (c .newtypes); aliases = loops-none (schemaOf s) Expression .0 (c .aliases) },
+        let c = clear (schemaOf ed s) (frameIn (w .image)) (a .0) (schema-read w ∙ a .1) in
+        record { before = passes-8 (passes-7 w (c .names)) (c .newtypes); aliases = loops-none (schemaOf ed s) Expression .0 (c .aliases) },
     λ l. let a = l .before in let b = a .before in
-        (frameIn (b .whole .image), sym (none-refused (schemaOf s) _ (names-none (schemaOf s) .1 (b .names)) (loops-none (schemaOf s) Resolved .1 (a .newtypes)) (loops-none (schemaOf s) Expression .1 (l .aliases)) ∙ schema-read (b .whole))),
+        (frameIn (b .whole .image), sym (none-refused (schemaOf ed s) _ (names-none (schemaOf ed s) .1 (b .names)) (loops-none (schemaOf ed s) Resolved .1 (a .newtypes)) (loops-none (schemaOf ed s) Expression .1 (l .aliases)) ∙ schema-read (b .whole))),
   )
 
-  pub exactly : {r : Reading} → r ≡ readingOf s → Judged s r
-  exactly e = subst (λ (r : Reading). Judged s r) (sym e) record { seven = seven; eight = eight; nine = nine; accepted = accepted }
+  pub exactly : {r : Reading} → r ≡ readingOf ed s → Judged ed s r
+  exactly e = subst (λ (r : Reading). Judged ed s r) (sym e) record { seven = seven; eight = eight; nine = nine; accepted = accepted }

@@ -7,6 +7,7 @@ use lib.Seq.{sets}
 use Rattle.number.specs.Grammar.{Outcome, done, refused}
 use Rattle.tree.specs.declared.Sort.the-variants.{Resolved, Expression}
 use Rattle.slot.specs.Slot.{Slot, empty, message, enum, flags, union, newtype, config, alias, trait, impl}
+use Rattle.slot.specs.declared.Edition.{Edition}
 use Rattle.graph.specs.Ways.{lowest}
 use Rattle.graph.specs.declared.Lowest.{Lowest}
 use Rattle.image.specs.Schema.{Schema, slotOf}
@@ -54,8 +55,8 @@ answered (done i n) = judged (schemaIn i) (frameIn i)
 answered (refused r p) = Reading.Refused r p
 
 -- refusals 1 to 9, or acceptance
-unfoldable pub readingOf : List ℕ → Reading
-readingOf s = answered (imageOf s)
+unfoldable pub readingOf : Edition → List ℕ → Reading
+readingOf ed s = answered (imageOf ed s)
 
 abbrev pub noSchema : Schema
 noSchema = record { finds = []; slots = []; declared = [] }
@@ -65,8 +66,8 @@ schemaOr (done i n) = schemaIn i
 schemaOr (refused r p) = noSchema
 
 -- the schema of an image; one that was not read has none
-unfoldable pub schemaOf : List ℕ → Schema
-schemaOf s = schemaOr (imageOf s)
+unfoldable pub schemaOf : Edition → List ℕ → Schema
+schemaOf ed s = schemaOr (imageOf ed s)
 
 abbrev pub startsOr : Reading → Outcome Image → List ℕ
 startsOr (Reading.Accepted f) (done i n) = startsOf (i .slots)
@@ -74,5 +75,5 @@ startsOr (Reading.Accepted f) (refused r p) = []
 startsOr (Reading.Refused r p) o = []
 
 -- the table of slot starts: those of an accepted image, and zeros
-unfoldable pub startsTable : List ℕ → List ℕ
-startsTable s = sets (replicate 512 0) 0 (startsOr (readingOf s) (imageOf s))
+unfoldable pub startsTable : Edition → List ℕ → List ℕ
+startsTable ed s = sets (replicate 512 0) 0 (startsOr (readingOf ed s) (imageOf ed s))

@@ -9,6 +9,7 @@ use Rattle.number.specs.Grammar.{done}
 use Rattle.tree.specs.declared.Sort.{Sort}
 use Rattle.tree.specs.declared.Sort.the-variants.{Resolved, Expression}
 use Rattle.slot.specs.Slot.{empty}
+use Rattle.slot.specs.declared.Edition.{Edition}
 use Rattle.image.specs.Schema.{Schema, slotOf}
 use Rattle.image.specs.Image.{Image, imageOf}
 use Rattle.image.specs.declared.Frame.{Frame}
@@ -33,29 +34,29 @@ abbrev pub LowestOnLoop : Sort → Schema → (slot : ℕ) → Type 0
 LowestOnLoop sort S = LowestWith (Looped sort S)
 
 -- the image passes 1 to 6: it is read to its last byte
-pub record Passes6 (s : List ℕ) : Type 0 where
+pub record Passes6 (ed : Edition) (s : List ℕ) : Type 0 where
   pub image : Image
   pub end : ℕ
-  pub reads : imageOf s ≡ done image end
+  pub reads : imageOf ed s ≡ done image end
 
 -- and 7: no name is lost
-pub record Passes7 (s : List ℕ) : Type 0 where
-  pub whole : Passes6 s
-  pub names : (n : ℕ) → Lost (schemaOf s) n → ⊥
+pub record Passes7 (ed : Edition) (s : List ℕ) : Type 0 where
+  pub whole : Passes6 ed s
+  pub names : (n : ℕ) → Lost (schemaOf ed s) n → ⊥
 
 -- and 8: no newtype is on a loop
-pub record Passes8 (s : List ℕ) : Type 0 where
-  pub before : Passes7 s
-  pub newtypes : (x : ℕ) → Looped Resolved (schemaOf s) x → ⊥
+pub record Passes8 (ed : Edition) (s : List ℕ) : Type 0 where
+  pub before : Passes7 ed s
+  pub newtypes : (x : ℕ) → Looped Resolved (schemaOf ed s) x → ⊥
 
 -- and 9: no alias is on a loop
-pub record Passes9 (s : List ℕ) : Type 0 where
-  pub before : Passes8 s
-  pub aliases : (x : ℕ) → Looped Expression (schemaOf s) x → ⊥
+pub record Passes9 (ed : Edition) (s : List ℕ) : Type 0 where
+  pub before : Passes8 ed s
+  pub aliases : (x : ℕ) → Looped Expression (schemaOf ed s) x → ⊥
 
 -- an image's answer is 7, 8 or 9 with a place, or acceptance, exactly so
-pub record Judged (s : List ℕ) (r : Reading) : Type 0 where
-  pub seven : (n : ℕ) → (r ≡ Reading.Refused 7 n) ↔ (Passes6 s × LowestWith (Lost (schemaOf s)) n)
-  pub eight : (x : ℕ) → (r ≡ Reading.Refused 8 x) ↔ (Passes7 s × LowestOnLoop Resolved (schemaOf s) x)
-  pub nine : (x : ℕ) → (r ≡ Reading.Refused 9 x) ↔ (Passes8 s × LowestOnLoop Expression (schemaOf s) x)
-  pub accepted : ((f : Frame) × (r ≡ Reading.Accepted f)) ↔ Passes9 s
+pub record Judged (ed : Edition) (s : List ℕ) (r : Reading) : Type 0 where
+  pub seven : (n : ℕ) → (r ≡ Reading.Refused 7 n) ↔ (Passes6 ed s × LowestWith (Lost (schemaOf ed s)) n)
+  pub eight : (x : ℕ) → (r ≡ Reading.Refused 8 x) ↔ (Passes7 ed s × LowestOnLoop Resolved (schemaOf ed s) x)
+  pub nine : (x : ℕ) → (r ≡ Reading.Refused 9 x) ↔ (Passes8 ed s × LowestOnLoop Expression (schemaOf ed s) x)
+  pub accepted : ((f : Frame) × (r ≡ Reading.Accepted f)) ↔ Passes9 ed s

@@ -3,6 +3,7 @@ use graph::Lowest;
 use image::Frame;
 use image::Framed;
 use number::Ranged;
+use slot::Edition;
 use tree::Sort;
 use view::Part;
 ghost use mathlib.Core.Path.{_≡_};
@@ -10,12 +11,12 @@ ghost use mathlib.Core.List.{List};
 ghost use Prim.Native.Nat.{ℕ, _≤_};
 ghost use lib.ListN.{length};
 ghost use Rattle.number.specs.Grammar.{slot, number, many, done, read};
+ghost use Rattle.slot.specs.declared.Edition.{Edition};
 ghost use Rattle.image.specs.Finds.{findsAt};
 ghost use Rattle.loops.specs.Leads.{loopOf};
 ghost use Rattle.loops.specs.Located.{slotsOf, Located};
-ghost use Rattle.reader.specs.Reading.{lostName, orRefuse, judged, readingOf, schemaOf, startsTable};
-ghost use Rattle.reader.specs.Refusals.{Judged};
-ghost use Rattle.reader.specs.Promise.{Seen, Answered};
+ghost use Rattle.reader.specs.Reading.{lostName, orRefuse, judged, schemaOf};
+ghost use Rattle.reader.specs.Promise.{Seen, Answered, ReadsAs};
 ghost use Rattle.reader.specs.Lost.{lostAt};
 
 pub enum Reading {
@@ -44,8 +45,8 @@ fn is_lost(image: &[u8], starts: &[usize], find: u64) -> bool
 
 // Refusal 7. What the names find stands at `finds`.
 fn lost_name(image: &[u8], starts: &[usize], count: usize, names: u64, finds: usize) -> Lowest
-    requires { ⌜ Located names count (now image) (now starts) ⌝ }
-    ensures { λ r. ⌜ ((fs : List ℕ) (n : ℕ) → read (many names (number slot 513)) (now (image .entry)) finds ≡ done fs n → r ≡ lostName fs (slotsOf names count (now (image .entry)) (now (starts .entry)))) ⌝ }
+    requires { ⌜ ((ed : Edition) × Located ed names count (now image) (now starts)) ⌝ }
+    ensures { λ r. ⌜ ((ed : Edition) → Located ed names count (now (image .entry)) (now (starts .entry)) → (fs : List ℕ) (n : ℕ) → read (many names (number slot 513)) (now (image .entry)) finds ≡ done fs n → r ≡ lostName fs (slotsOf ed names count (now (image .entry)) (now (starts .entry)))) ⌝ }
 {
     let mut p = finds;
     let mut n: u64 = 0;
@@ -75,8 +76,8 @@ fn looped(
     finds: usize,
     sort: Sort,
 ) -> Lowest
-    requires { ⌜ (names ≤ 4096) × Located names count (now image) (now starts) ⌝ }
-    ensures { λ r. ⌜ r ≡ loopOf sort (findsAt names (now (image .entry)) finds) (slotsOf names count (now (image .entry)) (now (starts .entry))) count ⌝ }
+    requires { ⌜ (names ≤ 4096) × ((ed : Edition) × Located ed names count (now image) (now starts)) ⌝ }
+    ensures { λ r. ⌜ ((ed : Edition) → Located ed names count (now (image .entry)) (now (starts .entry)) → r ≡ loopOf sort (findsAt names (now (image .entry)) finds) (slotsOf ed names count (now (image .entry)) (now (starts .entry))) count) ⌝ }
 {
     if loops::none_leads(image, starts, count, sort) {
         return Lowest::Nowhere;
@@ -97,7 +98,7 @@ fn or_refuse(number: u8, found: Lowest, after: Reading) -> Reading
 // Refusals 7, 8 and 9, in this order.
 fn judge(image: &[u8], starts: &[usize], frame: Frame) -> Reading
     requires { ⌜ Seen (now image) (now starts) frame ⌝ }
-    ensures { λ r. ⌜ r ≡ judged (schemaOf (now (image .entry))) frame ⌝ }
+    ensures { λ r. ⌜ r ≡ judged (schemaOf (frame .edition) (now (image .entry))) frame ⌝ }
 {
     let names = frame.names;
     let finds = frame.finds;
@@ -111,11 +112,11 @@ fn judge(image: &[u8], starts: &[usize], frame: Frame) -> Reading
 
 // Reads an image into a table of where its slots start, as far as they are read. The layers above are handed as many places as
 // there are slots.
-pub fn read_into(image: &[u8], starts: &mut [usize]) -> Reading
+pub fn read_into(image: &[u8], edition: Edition, starts: &mut [usize]) -> Reading
     requires { ⌜ 512 ≤ length (now starts) ⌝ }
-    ensures { λ r. ⌜ Answered (now (image .entry)) (now (starts .entry)) (now (starts .exit)) r ⌝ }
+    ensures { λ r. ⌜ Answered edition (now (image .entry)) (now (starts .entry)) (now (starts .exit)) r ⌝ }
 {
-    match image::read_image(image, starts) {
+    match image::read_image(image, edition, starts) {
         Framed::Read(frame) => {
             let count = frame.slots as usize;
             judge(image, &starts[0..count], frame)
@@ -124,12 +125,12 @@ pub fn read_into(image: &[u8], starts: &mut [usize]) -> Reading
     }
 }
 
-// Reads an image: the answer, and the table of where the slots start, which is all zero on a refusal.
-pub fn read_schema(image: &[u8]) -> Read
-    ensures { λ r. ⌜ (r .answer ≡ readingOf (now (image .entry))) × (r .starts ≡ startsTable (now (image .entry))) × Judged (now (image .entry)) (r .answer) ⌝ }
+// The answer, and the table of where the slots start, which is all zero on a refusal.
+fn read_edition(image: &[u8], edition: Edition) -> Read
+    ensures { λ r. ⌜ ReadsAs edition (now (image .entry)) (r .answer) (r .starts) ⌝ }
 {
     let mut starts = [0usize; 512];
-    match read_into(image, &mut starts) {
+    match read_into(image, edition, &mut starts) {
         Reading::Accepted(frame) => Read {
             answer: Reading::Accepted(frame),
             starts,
@@ -139,4 +140,18 @@ pub fn read_schema(image: &[u8]) -> Read
             starts: [0usize; 512],
         },
     }
+}
+
+// Reads an image of edition one.
+pub fn read_schema(image: &[u8]) -> Read
+    ensures { λ r. ⌜ ReadsAs Edition.One (now (image .entry)) (r .answer) (r .starts) ⌝ }
+{
+    read_edition(image, Edition::One)
+}
+
+// Reads an image of edition two.
+pub fn read_schema_two(image: &[u8]) -> Read
+    ensures { λ r. ⌜ ReadsAs Edition.Two (now (image .entry)) (r .answer) (r .starts) ⌝ }
+{
+    read_edition(image, Edition::Two)
 }

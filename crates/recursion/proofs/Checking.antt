@@ -13,6 +13,7 @@ use Rattle.number.proofs.Reading.{read-done, read-number, given, not-done, fron
 use Rattle.slot.specs.Field.{Span, spanAt, storedAt, fieldsAt}
 use Rattle.slot.specs.Slot.{Slot, empty, message, enum, flags, union, newtype, config, alias, trait, impl, Message, messageAt, slotKind, slotBodyAt}
 use Rattle.slot.proofs.Whole.{made-of}
+use Rattle.slot.specs.declared.Edition.{Edition}
 use Rattle.image.specs.Schema.{Schema, slotOf}
 use Rattle.image.specs.declared.Frame.{Frame}
 use Rattle.reader.specs.Reading.{schemaOf}
@@ -35,10 +36,10 @@ use Rattle.recursion.specs.Recursion.{Ready, Checked, Roomy, Tables, Fin
 
 pub finding-is : (s : List ℕ) (body i o n l k : ℕ) → Takes s body o n → Takes s n l k → FindingAt s body i (record { class = 1; slot = i; offset = o; length = l; a = 0; b = 0 })
 unfolding messageAt read
-finding-is s body i o n l k t u names m end e =
+finding-is s body i o n l k t u ed names m end e =
     let a = read-done spanAt _ s body m end e in
     let d = read-done storedAt _ s (a .middle) m end (a .rest) in
-    let f = read-done (fieldsAt names) _ s (d .middle) m end (d .rest) in
+    let f = read-done (fieldsAt ed names) _ s (d .middle) m end (d .rest) in
     let p : a .first ≡ m .span = ap (λ (z : Message). z .span) (given (f .rest) .0) in
     ap (λ (z : Span). finding 1 i z 0 0) (span-taken s body (a .first) (a .middle) o n l k t u (a .here) .0 ∙ p)
 
@@ -118,20 +119,17 @@ countable {messages} S h i e =
     }
 
 -- a message, from its kind and its body
-message-reads : (names : ℕ) (s : List ℕ) (x : Slot) (kind body : ℕ) → Behind names s x kind body → (m : Message) → x ≡ message m → (end : ℕ) × (read (messageAt names) s body ≡ done m end)
+message-reads : (ed : Edition) (names : ℕ) (s : List ℕ) (x : Slot) (kind body : ℕ) → Behind ed names s x kind body → (m : Message) → x ≡ message m → (end : ℕ) × (read (messageAt ed names) s body ≡ done m end)
 unfolding slotBodyAt
-message-reads names s x kind body b m e =
+message-reads ed names s x kind body b m e =
     let k : 1 ≡ kind = sym (ap slotKind e) ∙ b .kindIs in
-    let r : read (slotBodyAt names 1) s body ≡ done (message m) (b .end) = ap (λ (j : ℕ). read (slotBodyAt names j) s body) k ∙ b .reads ∙ ap (λ (y : Slot). done y (b .end)) e in
-    let d = made-of s message (messageAt names) body (message m) (b .end) r in
+    let r : read (slotBodyAt ed names 1) s body ≡ done (message m) (b .end) = ap (λ (j : ℕ). read (slotBodyAt ed names j) s body) k ∙ b .reads ∙ ap (λ (y : Slot). done y (b .end)) e in
+    let d = made-of s message (messageAt ed names) body (message m) (b .end) r in
     let q : d .held ≡ m = let p = d .slotIs in cc in
     (b .end, d .reads ∙ ap (λ (y : Message). done y (b .end)) q)
 
-module _ (s : List ℕ) (messages : List Bool) (first parts : List ℕ) (h : Held (schemaOf s) messages first parts) (i : ℕ) (more : ℕ) (c : Counted messages first parts i more)
+module _ (S : Schema) (messages : List Bool) (first parts : List ℕ) (h : Held S messages first parts) (i : ℕ) (more : ℕ) (c : Counted messages first parts i more)
     (t : List ℕ) (count : ℕ) where
-  abbrev S : Schema
-  S = schemaOf s
-
   module _ (e : getD messages i false ≡ true) where
     abbrev own : Countable messages first parts i
     own = countable S h i e
@@ -142,30 +140,30 @@ module _ (s : List ℕ) (messages : List Bool) (first parts : List ℕ) (h : Hel
     pub slot-free : more ≡ 0 → Adds 65536 t t count count (endlessAt S i (slotOf S i))
     slot-free z = none-here t count _ (all-of ∙ ap (λ (n : ℕ). replicate n (finding 1 i (own .holder .span) 0 0)) z)
 
-    pub slot-found : (names kind body : ℕ) → Behind names s (slotOf S i) kind body → (x : Finding) → FindingAt s body i x → (t′ : List ℕ) (r : ℕ) → Adds more t t′ count r (replicate more x)
+    pub slot-found : (ed : Edition) (names : ℕ) (s : List ℕ) (kind body : ℕ) → Behind ed names s (slotOf S i) kind body → (x : Finding) → FindingAt s body i x → (t′ : List ℕ) (r : ℕ) → Adds more t t′ count r (replicate more x)
         → Adds 65536 t t′ count r (endlessAt S i (slotOf S i))
-    slot-found names kind body b x f t′ r a =
-        let w = message-reads names s (slotOf S i) kind body b (own .holder) (own .there) in
-        adds-same 65536 (omega (arith, c .most)) (all-of ∙ ap (replicate more) (sym (f names (own .holder) (w .0) (w .1)))) a
+    slot-found ed names s kind body b x f t′ r a =
+        let w = message-reads ed names s (slotOf S i) kind body b (own .holder) (own .there) in
+        adds-same 65536 (omega (arith, c .most)) (all-of ∙ ap (replicate more) (sym (f ed names (own .holder) (w .0) (w .1)))) a
 
 -- ## All declarations
 
 -- `left` places of the list are still to come at p, and the findings of the others are in the table
-pub record Turn (s before : List ℕ) (left p count : ℕ) (now : List ℕ) : Type 0 where
+pub record Turn (S : Schema) (s before : List ℕ) (left p count : ℕ) (now : List ℕ) : Type 0 where
   pub others : List ℕ
   pub end : ℕ
   pub reads : read (many left (number slot (2 ^ 32))) s p ≡ done others end
   pub found : List Finding
-  pub whole : endlessOf (schemaOf s) (schemaOf s .declared) ≡ found ++ endlessOf (schemaOf s) others
+  pub whole : endlessOf S (S .declared) ≡ found ++ endlessOf S others
   pub table : now ≡ noted (length before) found
   pub counts : count ≡ length found
   pub most : count + 65536 * left ≤ 67108864
 
 module _ (s starts : List ℕ) (f : Frame) (promise : Promise s starts f) (before : List ℕ) (blank : before ≡ noted (length before) []) where
-  pub first-turn : Turn s before (f .declarations) (f .declared) 0 before
+  pub first-turn : Turn (schemaOf (f .edition) s) s before (f .declarations) (f .declared) 0 before
   first-turn =
       record {
-        others = schemaOf s .declared;
+        others = schemaOf (f .edition) s .declared;
         end = promise .declaredEnd;
         reads = promise .declared;
         found = [];
@@ -175,7 +173,7 @@ module _ (s starts : List ℕ) (f : Frame) (promise : Promise s starts f) (befor
         most = omega (arith, promise .fewDeclared);
       }
 
-module _ (s before : List ℕ) (left p count : ℕ) (now : List ℕ) (t : Turn s before left p count now) where
+module _ (S : Schema) (s before : List ℕ) (left p count : ℕ) (now : List ℕ) (t : Turn S s before left p count now) where
   module _ (h : 0 < left) where
     declared-front : (i : ℕ) × (others : List ℕ) × (n : ℕ) × (below (2 ^ 32) s p ≡ done i n) × (read (many (left - 1) (number slot (2 ^ 32))) s n ≡ done others (t .end)) × (t .others ≡ i ∷ others)
     declared-front =
@@ -190,35 +188,35 @@ module _ (s before : List ℕ) (left p count : ℕ) (now : List ℕ) (t : Turn s
     never-refused r q e = not-done e (declared-front .3)
 
     pub next-turn : (i n : ℕ) → below (2 ^ 32) s p ≡ done i n → (after : List ℕ) (r : ℕ)
-        → Adds 65536 now after count r (endlessAt (schemaOf s) i (slotOf (schemaOf s) i)) → Turn s before (left - 1) n r after
+        → Adds 65536 now after count r (endlessAt S i (slotOf S i)) → Turn S s before (left - 1) n r after
     unfolding endlessOf
     next-turn i n e after r a =
         let w = declared-front in
         let g = given (sym e ∙ w .3) in
-        let more = endlessAt (schemaOf s) i (slotOf (schemaOf s) i) in
+        let more = endlessAt S i (slotOf S i) in
         let own : t .others ≡ i ∷ w .1 = w .5 ∙ ap (λ (j : ℕ). j ∷ w .1) (sym (g .0)) in
         record {
           others = w .1;
           end = t .end;
           reads = ap (read (many (left - 1) (number slot (2 ^ 32))) s) (g .1) ∙ w .4;
           found = t .found ++ more;
-          whole = t .whole ∙ ap (λ (ds : List ℕ). t .found ++ endlessOf (schemaOf s) ds) own ∙ sym (append-assoc (t .found) more (endlessOf (schemaOf s) (w .1)));
+          whole = t .whole ∙ ap (λ (ds : List ℕ). t .found ++ endlessOf S ds) own ∙ sym (append-assoc (t .found) more (endlessOf S (w .1)));
           table = adds-noted a (length before) (t .found) (sym (t .counts)) (t .table);
           counts = a .answer ∙ omega (arith, t .counts, length-append (t .found) more);
           most = omega (arith, t .most, a .few);
         }
 
-  pub last-turn : left ≤ 0 → Checked s before now count
+  pub last-turn : left ≤ 0 → Checked S before now count
   unfolding many read endlessOf
   last-turn h =
       let z : left ≡ 0 = omega arith in
       let k : [] ≡ t .others = given (rw z at (t .reads)) .0 in
-      let w : endlessOf (schemaOf s) (schemaOf s .declared) ≡ t .found = t .whole ∙ ap (λ (ds : List ℕ). t .found ++ endlessOf (schemaOf s) ds) (sym k) ∙ append-nil (t .found) in
+      let w : endlessOf S (S .declared) ≡ t .found = t .whole ∙ ap (λ (ds : List ℕ). t .found ++ endlessOf S ds) (sym k) ∙ append-nil (t .found) in
       record { count = t .counts ∙ ap length (sym w); table = t .table ∙ ap (noted (length before)) (sym w); most = omega (arith, t .most) }
 
 -- ## No findings
 
-pub none-found : {s starts findings : List ℕ} {f : Frame} → Ready s starts f findings → endlessOf (schemaOf s) (schemaOf s .declared) ≡ [] → Checked s findings findings 0
+pub none-found : {s starts findings : List ℕ} {f : Frame} {S : Schema} → Ready s starts f findings → endlessOf S (S .declared) ≡ [] → Checked S findings findings 0
 none-found {findings = findings} r n = record { count = ap length (sym n); table = r .blank ∙ ap (noted (length findings)) (sym n); most = omega arith }
 
 -- ## The tables
@@ -230,9 +228,9 @@ pub listable : {s starts : List ℕ} {f : Frame} {findings parts : List ℕ} →
 listable r = record { promise = r .ready .promise; marks = refl; places = refl; room = r .room; few = r .few }
 
 pub tables : {s starts : List ℕ} {f : Frame} {findings before : List ℕ} → Roomy s starts f findings before → (messages : List Bool) (first parts : List ℕ)
-    → Tabled (schemaOf s .slots) messages first before parts → Tables s starts f messages first parts
-tables {s} r messages first parts t =
+    → Tabled (schemaOf (f .edition) s .slots) messages first before parts → Tables s starts f messages first parts
+tables {s} {f = f} r messages first parts t =
     record {
       promise = r .ready .promise;
-      held = held (schemaOf s) messages first _ parts t (all-fit _ _ _ _ _ _ (listable r)) (omega (arith, r .ready .promise .few, r .ready .promise .count)) (r .few);
+      held = held (schemaOf (f .edition) s) messages first _ parts t (all-fit _ _ _ _ _ _ (listable r)) (omega (arith, r .ready .promise .few, r .ready .promise .count)) (r .few);
     }

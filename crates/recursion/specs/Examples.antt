@@ -14,7 +14,7 @@ use Rattle.findings.specs.Finding.{finding}
 use Rattle.findings.specs.declared.Finding.{Finding}
 
 abbrev pub field : Tree → Field
-field t = record { fieldName = 0; encoding = default; type = t }
+field t = record { fieldName = 0; encoding = default; type = t; limit = 0 }
 
 abbrev pub messageOf : List Field → Slot
 messageOf fs = message (record { span = record { offset = 5; length = 7 }; stored = none; fields = fs })

@@ -58,7 +58,7 @@ fn check_slot(
     findings: &mut [u32],
 ) -> u64
     requires { ⌜ Tables (now image) (now starts) frame (now messages) (now first) (now parts) × (count ≤ 2 ^ 27) ⌝ }
-    ensures { λ r. ⌜ Adds 65536 (now (findings .entry)) (now (findings .exit)) count r (endlessAt (schemaOf (now (image .entry))) slot (slotOf (schemaOf (now (image .entry))) slot)) ⌝ }
+    ensures { λ r. ⌜ Adds 65536 (now (findings .entry)) (now (findings .exit)) count r (endlessAt (schemaOf (frame .edition) (now (image .entry))) slot (slotOf (schemaOf (frame .edition) (now (image .entry))) slot)) ⌝ }
 {
     if frame.slots <= slot {
         return count;
@@ -89,7 +89,7 @@ fn check_declared(
     findings: &mut [u32],
 ) -> u64
     requires { ⌜ Tables (now image) (now starts) frame (now messages) (now first) (now parts) × (now findings ≡ noted (length (now findings)) []) ⌝ }
-    ensures { λ r. ⌜ Checked (now (image .entry)) (now (findings .entry)) (now (findings .exit)) r ⌝ }
+    ensures { λ r. ⌜ Checked (schemaOf (frame .edition) (now (image .entry))) (now (findings .entry)) (now (findings .exit)) r ⌝ }
 {
     let mut left = frame.declarations;
     let mut p = frame.declared;
@@ -124,7 +124,7 @@ fn check_with(
     findings: &mut [u32],
 ) -> u64
     requires { ⌜ Roomy (now image) (now starts) frame (now findings) (now parts) ⌝ }
-    ensures { λ r. ⌜ Checked (now (image .entry)) (now (findings .entry)) (now (findings .exit)) r ⌝ }
+    ensures { λ r. ⌜ Checked (schemaOf (frame .edition) (now (image .entry))) (now (findings .entry)) (now (findings .exit)) r ⌝ }
 {
     let mut messages = [false; 512];
     let mut first = [0u16; 513];
@@ -134,7 +134,7 @@ fn check_with(
 
 fn check_small(image: &[u8], starts: &[usize], frame: Frame, findings: &mut [u32]) -> u64
     requires { ⌜ Ready (now image) (now starts) frame (now findings) × (length (now image) ≤ 2048) ⌝ }
-    ensures { λ r. ⌜ Checked (now (image .entry)) (now (findings .entry)) (now (findings .exit)) r ⌝ }
+    ensures { λ r. ⌜ Checked (schemaOf (frame .edition) (now (image .entry))) (now (findings .entry)) (now (findings .exit)) r ⌝ }
 {
     let mut parts = [0u16; 1024];
     check_with(image, starts, frame, &mut parts, findings)
@@ -142,7 +142,7 @@ fn check_small(image: &[u8], starts: &[usize], frame: Frame, findings: &mut [u32
 
 fn check_large(image: &[u8], starts: &[usize], frame: Frame, findings: &mut [u32]) -> u64
     requires { ⌜ Ready (now image) (now starts) frame (now findings) ⌝ }
-    ensures { λ r. ⌜ Checked (now (image .entry)) (now (findings .entry)) (now (findings .exit)) r ⌝ }
+    ensures { λ r. ⌜ Checked (schemaOf (frame .edition) (now (image .entry))) (now (findings .entry)) (now (findings .exit)) r ⌝ }
 {
     let mut parts = [0u16; 32768];
     check_with(image, starts, frame, &mut parts, findings)
@@ -152,7 +152,7 @@ fn check_large(image: &[u8], starts: &[usize], frame: Frame, findings: &mut [u32
 // image has few names, and no large table is cleared for it.
 pub fn check_recursion(image: &[u8], starts: &[usize], frame: Frame, findings: &mut [u32]) -> u64
     requires { ⌜ Ready (now image) (now starts) frame (now findings) ⌝ }
-    ensures { λ r. ⌜ Checked (now (image .entry)) (now (findings .entry)) (now (findings .exit)) r ⌝ }
+    ensures { λ r. ⌜ Checked (schemaOf (frame .edition) (now (image .entry))) (now (findings .entry)) (now (findings .exit)) r ⌝ }
 {
     if image.len() <= 2048 {
         check_small(image, starts, frame, findings)

@@ -58,14 +58,12 @@ marks-alone n l ds m i h =
 -- the declaration list of an accepted image
 pub known : (s starts : List ℕ) (f : Frame) (rows : List ℕ) → Ready s starts f rows → (l : List Bool) → length l ≡ 512
     → ((ds : List ℕ) (n : ℕ) → read (many (f .declarations) (number slot (2 ^ 32))) s (f .declared) ≡ done ds n → Marked (replicate 512 false) ds l)
-    → Known s starts (f .slots) l rows
+    → Known s starts f l rows
 known s starts f rows ready l long m =
     let few = ready .promise .few in
     record {
-      frame = f;
       promise = ready .promise;
-      slots = refl;
       room = omega arith;
       places = ready .places;
-      declared = λ i h. marks-alone 512 l (schemaOf s .declared) (m (schemaOf s .declared) (ready .promise .declaredEnd) (ready .promise .declared)) i (omega arith);
+      declared = λ i h. marks-alone 512 l (schemaOf (f .edition) s .declared) (m (schemaOf (f .edition) s .declared) (ready .promise .declaredEnd) (ready .promise .declared)) i (omega arith);
     }

@@ -10,8 +10,9 @@ use Rattle.number.specs.Grammar.{Grammar, kind, count, value, _>>=_, number, ma
 use Rattle.number.proofs.Reading.{read-done, given}
 use Rattle.tree.specs.TreeAt.{noKind}
 use Rattle.slot.specs.Field.{Span, spanAt, Stored, storedTable, storedAt, fieldsAt}
-use Rattle.slot.specs.Slot.{Slot, empty, message, enum, flags, union, newtype, config, alias, trait, impl, slotKind, Message, messageAt, Ordinals, ordinalsAt, Enum, enumAt, Flags, flagsAt, Union, unionAt, made, slotBodyAt}
+use Rattle.slot.specs.Slot.{Slot, empty, message, enum, flags, union, newtype, config, alias, trait, impl, slotKind, Message, messageAt, Ordinals, retiredAt, ordinalsAt, Enum, enumAt, Flags, flagsAt, Union, unionAt, made, slotBodyAt}
 use Rattle.slot.proofs.Whole.{Made, made-of}
+use Rattle.slot.specs.declared.Edition.{Edition}
 use Rattle.graph.specs.Ways.{has}
 use Rattle.image.specs.Schema.{Schema, slotOf}
 use Rattle.image.specs.declared.Frame.{Frame}
@@ -75,63 +76,64 @@ module _ (s : List ℕ) (at : ℕ) where
   -- ## Enums and flags
 
   -- an enum from the numbers in front of its ordinals
-  record EnumParts (backing nonExhaustive bits ordinals : ℕ) (e : Enum) (end : ℕ) : Type 0 where
+  record EnumParts (ed : Edition) (backing nonExhaustive bits ordinals : ℕ) (e : Enum) (end : ℕ) : Type 0 where
     pub list : Ordinals
-    pub listRead : read ordinalsAt s ordinals ≡ done list end
+    pub listRead : read (ordinalsAt ed) s ordinals ≡ done list end
     pub enumIs : e ≡ record { backing = backing; nonExhaustive = nonExhaustive; storedBits = bits; ordinals = list }
 
   module _ (b n x m w o : ℕ) (t : Takes s at b n) (u : Takes s n x m) (v : Takes s m w o) where
-    enum-parts : (e : Enum) (end : ℕ) → read enumAt s at ≡ done e end → EnumParts b x w o e end
+    enum-parts : (ed : Edition) (e : Enum) (end : ℕ) → read (enumAt ed) s at ≡ done e end → EnumParts ed b x w o e end
     unfolding enumAt read
-    enum-parts e end r =
-        let p = read-done ordinalsAt _ s o e end (take-on s m value 256 _ e end w o v (take-on s n value 2 _ e end x m u (take-on s at value 5 _ e end b n t r))) in
+    enum-parts ed e end r =
+        let p = read-done (ordinalsAt ed) _ s o e end (take-on s m value 256 _ e end w o v (take-on s n value 2 _ e end x m u (take-on s at value 5 _ e end b n t r))) in
         let g = given (p .rest) in
         record { list = p .first; listRead = p .here ∙ ap (done (p .first)) (g .1); enumIs = sym (g .0) }
 
-    pub enum-stored : (declared : Bool) → declared ≡ false → (e : Enum) (end : ℕ) → read enumAt s at ≡ done e end
+    pub enum-stored : (declared : Bool) → declared ≡ false → (ed : Edition) (e : Enum) (end : ℕ) → read (enumAt ed) s at ≡ done e end
         → w ≡ cond declared (enumBits e) (e .storedBits)
-    enum-stored declared d e end r = rw (d, enum-parts e end r .enumIs)
+    enum-stored declared d ed e end r = rw (d, enum-parts ed e end r .enumIs)
 
-    pub enum-worked : (declared : Bool) → declared ≡ true → (top : ℕ) → ((os : Ordinals) (k : ℕ) → read ordinalsAt s o ≡ done os k → top ≡ highest 0 (os .live))
+    pub enum-worked : (declared : Bool) → declared ≡ true → (top : ℕ) → ((ed : Edition) (os : Ordinals) (k : ℕ) → read (ordinalsAt ed) s o ≡ done os k → top ≡ highest 0 (os .live))
         → (bits : ℕ) → ((e : Enum) → e .backing ≡ b → e .nonExhaustive ≡ x → highest 0 (e .ordinals .live) ≡ top → bits ≡ enumBits e)
-        → (e : Enum) (end : ℕ) → read enumAt s at ≡ done e end → bits ≡ cond declared (enumBits e) (e .storedBits)
-    enum-worked declared d top h bits k e end r =
-        let p = enum-parts e end r in
+        → (ed : Edition) (e : Enum) (end : ℕ) → read (enumAt ed) s at ≡ done e end → bits ≡ cond declared (enumBits e) (e .storedBits)
+    enum-worked declared d top h bits k ed e end r =
+        let p = enum-parts ed e end r in
         rw d (k e (ap (λ (y : Enum). y .backing) (p .enumIs)) (ap (λ (y : Enum). y .nonExhaustive) (p .enumIs))
-        (ap (λ (y : Enum). highest 0 (y .ordinals .live)) (p .enumIs) ∙ sym (h (p .list) end (p .listRead))))
+        (ap (λ (y : Enum). highest 0 (y .ordinals .live)) (p .enumIs) ∙ sym (h ed (p .list) end (p .listRead))))
 
-  record FlagsParts (bytes ordinals : ℕ) (f : Flags) (end : ℕ) : Type 0 where
+  record FlagsParts (ed : Edition) (bytes ordinals : ℕ) (f : Flags) (end : ℕ) : Type 0 where
     pub list : Ordinals
-    pub listRead : read ordinalsAt s ordinals ≡ done list end
+    pub listRead : read (ordinalsAt ed) s ordinals ≡ done list end
     pub flagsIs : f ≡ record { storedBytes = bytes; bits = list }
 
   module _ (w o : ℕ) (t : Takes s at w o) where
-    flags-parts : (f : Flags) (end : ℕ) → read flagsAt s at ≡ done f end → FlagsParts w o f end
+    flags-parts : (ed : Edition) (f : Flags) (end : ℕ) → read (flagsAt ed) s at ≡ done f end → FlagsParts ed w o f end
     unfolding flagsAt read
-    flags-parts f end r =
-        let p = read-done ordinalsAt _ s o f end (take-on s at value 256 _ f end w o t r) in
+    flags-parts ed f end r =
+        let p = read-done (ordinalsAt ed) _ s o f end (take-on s at value 256 _ f end w o t r) in
         let g = given (p .rest) in
         record { list = p .first; listRead = p .here ∙ ap (done (p .first)) (g .1); flagsIs = sym (g .0) }
 
-    pub flags-stored : (declared : Bool) → declared ≡ false → (f : Flags) (end : ℕ) → read flagsAt s at ≡ done f end
+    pub flags-stored : (declared : Bool) → declared ≡ false → (ed : Edition) (f : Flags) (end : ℕ) → read (flagsAt ed) s at ≡ done f end
         → w ≡ cond declared (flagsBytes f) (f .storedBytes)
-    flags-stored declared d f end r = rw (d, flags-parts f end r .flagsIs)
+    flags-stored declared d ed f end r = rw (d, flags-parts ed f end r .flagsIs)
 
-    pub flags-worked : (declared : Bool) → declared ≡ true → (top : ℕ) → ((os : Ordinals) (k : ℕ) → read ordinalsAt s o ≡ done os k → top ≡ highest 0 (os .live))
-        → (bytes : ℕ) → bytes ≡ bytesTo top → (f : Flags) (end : ℕ) → read flagsAt s at ≡ done f end → bytes ≡ cond declared (flagsBytes f) (f .storedBytes)
+    pub flags-worked : (declared : Bool) → declared ≡ true → (top : ℕ) → ((ed : Edition) (os : Ordinals) (k : ℕ) → read (ordinalsAt ed) s o ≡ done os k → top ≡ highest 0 (os .live))
+        → (bytes : ℕ) → bytes ≡ bytesTo top → (ed : Edition) (f : Flags) (end : ℕ) → read (flagsAt ed) s at ≡ done f end → bytes ≡ cond declared (flagsBytes f) (f .storedBytes)
     unfolding flagsBytes
-    flags-worked declared d top h bytes k f end r =
-        let p = flags-parts f end r in
-        rw d (k ∙ ap bytesTo (h (p .list) end (p .listRead) ∙ ap (λ (y : Flags). highest 0 (y .bits .live)) (sym (p .flagsIs))))
+    flags-worked declared d top h bytes k ed f end r =
+        let p = flags-parts ed f end r in
+        rw d (k ∙ ap bytesTo (h ed (p .list) end (p .listRead) ∙ ap (λ (y : Flags). highest 0 (y .bits .live)) (sym (p .flagsIs))))
 
   -- the count of ordinals, and the ordinals
   pub ordinals-highest : (c n : ℕ) → Takes s at c n → (top : ℕ) → ((os : List ℕ) (k : ℕ) → read (many c (number value (2 ^ 32))) s n ≡ done os k → top ≡ highest 0 os)
-      → (os : Ordinals) (end : ℕ) → read ordinalsAt s at ≡ done os end → top ≡ highest 0 (os .live)
+      → (ed : Edition) (os : Ordinals) (end : ℕ) → read (ordinalsAt ed) s at ≡ done os end → top ≡ highest 0 (os .live)
   unfolding ordinalsAt counted read
-  ordinals-highest c n t top h os end r =
+  ordinals-highest c n t top h ed os end r =
       let p = read-done (counted (number value (2 ^ 32))) _ s at os end r in
       let q = take-on s at count 65537 _ (p .first) (p .middle) c n t (p .here) in
-      h (p .first) (p .middle) q ∙ ap (λ (y : Ordinals). highest 0 (y .live)) (given (p .rest) .0)
+      let v = read-done (retiredAt ed) _ s (p .middle) os end (p .rest) in
+      h (p .first) (p .middle) q ∙ ap (λ (y : Ordinals). highest 0 (y .live)) (given (v .rest) .0)
 
   -- ## Messages and unions
 
@@ -142,12 +144,12 @@ module _ (s : List ℕ) (at : ℕ) where
     pub storedEnd : ℕ
     pub storedRead : read storedAt s spanEnd ≡ done (m .stored) storedEnd
 
-  message-parts : (names : ℕ) (m : Message) (end : ℕ) → read (messageAt names) s at ≡ done m end → MessageParts m
+  message-parts : (ed : Edition) (names : ℕ) (m : Message) (end : ℕ) → read (messageAt ed names) s at ≡ done m end → MessageParts m
   unfolding messageAt read
-  message-parts names m end r =
+  message-parts ed names m end r =
       let p = read-done spanAt _ s at m end r in
       let q = read-done storedAt _ s (p .middle) m end (p .rest) in
-      let f = read-done (fieldsAt names) _ s (q .middle) m end (q .rest) in
+      let f = read-done (fieldsAt ed names) _ s (q .middle) m end (q .rest) in
       record {
         span = p .first;
         spanEnd = p .middle;
@@ -156,11 +158,11 @@ module _ (s : List ℕ) (at : ℕ) where
         storedRead = q .here ∙ ap (λ (y : Message). done (y .stored) (q .middle)) (given (f .rest) .0);
       }
 
-  union-stored : (names : ℕ) (u : Union) (end : ℕ) → read (unionAt names) s at ≡ done u end → (n : ℕ) × (read storedAt s at ≡ done (u .stored) n)
+  union-stored : (ed : Edition) (names : ℕ) (u : Union) (end : ℕ) → read (unionAt ed names) s at ≡ done u end → (n : ℕ) × (read storedAt s at ≡ done (u .stored) n)
   unfolding unionAt read
-  union-stored names u end r =
+  union-stored ed names u end r =
       let p = read-done storedAt _ s at u end r in
-      let f = read-done (counted (fieldsAt names)) _ s (p .middle) u end (p .rest) in
+      let f = read-done (counted (fieldsAt ed names)) _ s (p .middle) u end (p .rest) in
       (p .middle, p .here ∙ ap (λ (y : Union). done (y .stored) (p .middle)) (given (f .rest) .0))
 
 -- ## The row of a slot
@@ -202,44 +204,44 @@ module _ (s starts : List ℕ) (i : ℕ) (declared : Bool) where
   module _ (k body : ℕ) (part : partAt s starts i ≡ Part.At k body) where
     -- a slot of one kind
     held : {A : Type 0} (g : A → Slot) (a : Grammar A) (f : Frame) (promise : Promise s starts f) (h : i < f .slots)
-        → slotBodyAt (f .names) k ≡ made g a → (end : ℕ) × Made g a s body (slotOf (schemaOf s) i) end
+        → slotBodyAt (f .edition) (f .names) k ≡ made g a → (end : ℕ) × Made g a s body (slotOf (schemaOf (f .edition) s) i) end
     held g a f promise h q =
         let b = part-behind s starts f promise i h k body part in
-        (b .end, made-of s g a body (slotOf (schemaOf s) i) (b .end) (ap (λ (y : Grammar Slot). read y s body) (sym q) ∙ b .reads))
+        (b .end, made-of s g a body (slotOf (schemaOf (f .edition) s) i) (b .end) (ap (λ (y : Grammar Slot). read y s body) (sym q) ∙ b .reads))
 
     pub row-message : k ≡ 1 → (p : ℕ) → ((x : Span) (n : ℕ) → read spanAt s body ≡ done x n → p ≡ n)
         → (r : Row) → ((z : Stored) (n : ℕ) → read storedAt s p ≡ done z n → numbers r ≡ sizeRow (sizeIn z)) → RowIs s starts i declared r
     unfolding slotBodyAt
     row-message q p after r says f promise h d =
-        let m = held message (messageAt (f .names)) f promise h (rw q) .1 in
-        let t = message-parts s body (f .names) (m .held) _ (m .reads) in
+        let m = held message (messageAt (f .edition) (f .names)) f promise h (rw q) .1 in
+        let t = message-parts s body (f .edition) (f .names) (m .held) _ (m .reads) in
         says (m .held .stored) (t .storedEnd) (rw (after (t .span) (t .spanEnd) (t .spanRead)) (t .storedRead))
-        ∙ brought-row (schemaOf s) i (message (m .held)) (m .slotIs) isMessage
+        ∙ brought-row (schemaOf (f .edition) s) i (message (m .held)) (m .slotIs) isMessage
 
     pub row-union : k ≡ 4 → (r : Row) → ((z : Stored) (n : ℕ) → read storedAt s body ≡ done z n → numbers r ≡ sizeRow (sizeIn z)) → RowIs s starts i declared r
     unfolding slotBodyAt
     row-union q r says f promise h d =
-        let m = held union (unionAt (f .names)) f promise h (rw q) .1 in
-        let t = union-stored s body (f .names) (m .held) _ (m .reads) in
-        says (m .held .stored) (t .0) (t .1) ∙ brought-row (schemaOf s) i (union (m .held)) (m .slotIs) isUnion
+        let m = held union (unionAt (f .edition) (f .names)) f promise h (rw q) .1 in
+        let t = union-stored s body (f .edition) (f .names) (m .held) _ (m .reads) in
+        says (m .held .stored) (t .0) (t .1) ∙ brought-row (schemaOf (f .edition) s) i (union (m .held)) (m .slotIs) isUnion
 
-    pub row-enum : k ≡ 2 → (w : ℕ) → ((e : Enum) (n : ℕ) → read enumAt s body ≡ done e n → w ≡ cond declared (enumBits e) (e .storedBits))
+    pub row-enum : k ≡ 2 → (w : ℕ) → ((ed : Edition) (e : Enum) (n : ℕ) → read (enumAt ed) s body ≡ done e n → w ≡ cond declared (enumBits e) (e .storedBits))
         → RowIs s starts i declared (record { kind = 4; a = w; b = 0 })
     unfolding slotBodyAt
     row-enum q w says f promise h d =
-        let m = held enum enumAt f promise h (rw q) .1 in
-        enum-row (schemaOf s) i (brought (schemaOf s)) (m .held) declared w d (says (m .held) _ (m .reads))
-        ∙ ap (slotRow (schemaOf s) (brought (schemaOf s)) i) (sym (m .slotIs))
+        let m = held enum (enumAt (f .edition)) f promise h (rw q) .1 in
+        enum-row (schemaOf (f .edition) s) i (brought (schemaOf (f .edition) s)) (m .held) declared w d (says (f .edition) (m .held) _ (m .reads))
+        ∙ ap (slotRow (schemaOf (f .edition) s) (brought (schemaOf (f .edition) s)) i) (sym (m .slotIs))
 
-    pub row-flags : k ≡ 3 → (w : ℕ) → ((f : Flags) (n : ℕ) → read flagsAt s body ≡ done f n → w ≡ cond declared (flagsBytes f) (f .storedBytes))
+    pub row-flags : k ≡ 3 → (w : ℕ) → ((ed : Edition) (f : Flags) (n : ℕ) → read (flagsAt ed) s body ≡ done f n → w ≡ cond declared (flagsBytes f) (f .storedBytes))
         → RowIs s starts i declared (record { kind = 5; a = w; b = 0 })
     unfolding slotBodyAt
     row-flags q w says f promise h d =
-        let m = held flags flagsAt f promise h (rw q) .1 in
-        flags-row (schemaOf s) i (brought (schemaOf s)) (m .held) declared w d (says (m .held) _ (m .reads))
-        ∙ ap (slotRow (schemaOf s) (brought (schemaOf s)) i) (sym (m .slotIs))
+        let m = held flags (flagsAt (f .edition)) f promise h (rw q) .1 in
+        flags-row (schemaOf (f .edition) s) i (brought (schemaOf (f .edition) s)) (m .held) declared w d (says (f .edition) (m .held) _ (m .reads))
+        ∙ ap (slotRow (schemaOf (f .edition) s) (brought (schemaOf (f .edition) s)) i) (sym (m .slotIs))
 
     pub row-blank : ¬ (k ≡ 1) → ¬ (k ≡ 2) → ¬ (k ≡ 3) → ¬ (k ≡ 4) → (r : Row) → numbers r ≡ row 0 0 0 → RowIs s starts i declared r
     row-blank a b c d r e f promise h m =
         let q = part-behind s starts f promise i h k body part .kindIs in
-        e ∙ blank-row (schemaOf s) i (brought (schemaOf s)) (slotOf (schemaOf s) i) (λ x. a (sym q ∙ x)) (λ x. b (sym q ∙ x)) (λ x. c (sym q ∙ x)) (λ x. d (sym q ∙ x))
+        e ∙ blank-row (schemaOf (f .edition) s) i (brought (schemaOf (f .edition) s)) (slotOf (schemaOf (f .edition) s) i) (λ x. a (sym q ∙ x)) (λ x. b (sym q ∙ x)) (λ x. c (sym q ∙ x)) (λ x. d (sym q ∙ x))

@@ -27,17 +27,15 @@ Marked before ds after = (i : ℕ) → i < length before → getD after i false 
 -- what the image brings for slot i, and its width, computed if the slot is declared
 abbrev pub RowIs : (s starts : List ℕ) → (i : ℕ) → (declared : Bool) → Row → Type 0
 RowIs s starts i declared r =
-    (f : Frame) → Promise s starts f → i < f .slots → declared ≡ has i (schemaOf s .declared)
-    → numbers r ≡ slotRow (schemaOf s) (brought (schemaOf s)) i (slotOf (schemaOf s) i)
+    (f : Frame) → Promise s starts f → i < f .slots → declared ≡ has i (schemaOf (f .edition) s .declared)
+    → numbers r ≡ slotRow (schemaOf (f .edition) s) (brought (schemaOf (f .edition) s)) i (slotOf (schemaOf (f .edition) s) i)
 
--- an accepted image of `count` slots, of which those declared are marked, and a size table with three places a slot
-pub record Known (s starts : List ℕ) (count : ℕ) (marks : List Bool) (rows : List ℕ) : Type 0 where
-  pub frame : Frame
-  pub promise : Promise s starts frame
-  pub slots : frame .slots ≡ count
-  pub room : count ≤ length marks
-  pub places : 3 * count ≤ length rows
-  pub declared : (i : ℕ) → i < count → getD marks i false ≡ has i (schemaOf s .declared)
+-- an accepted image, of whose slots those declared are marked, and a size table with three places a slot
+pub record Known (s starts : List ℕ) (f : Frame) (marks : List Bool) (rows : List ℕ) : Type 0 where
+  pub promise : Promise s starts f
+  pub room : f .slots ≤ length marks
+  pub places : 3 * f .slots ≤ length rows
+  pub declared : (i : ℕ) → i < f .slots → getD marks i false ≡ has i (schemaOf (f .edition) s .declared)
 
 -- an accepted image, and a size table with three places a slot
 pub record Ready (s starts : List ℕ) (f : Frame) (rows : List ℕ) : Type 0 where

@@ -13,6 +13,7 @@ ghost use lib.Seq.{sets};
 ghost use Rattle.number.specs.Grammar.{slot, value, number, many, done, read};
 ghost use Rattle.slot.specs.Field.{Span, spanAt, Stored, storedAt};
 ghost use Rattle.slot.specs.Slot.{Ordinals, ordinalsAt, Enum, enumAt, Flags, flagsAt};
+ghost use Rattle.slot.specs.declared.Edition.{Edition};
 ghost use Rattle.reader.specs.Reading.{schemaOf};
 ghost use Rattle.sizes.specs.Widths.{highest, leastBits, enumBits, bytesTo, flagsBytes};
 ghost use Rattle.sizes.specs.Check.{row, sizeIn, sizeRow, brought, tableOf};
@@ -57,7 +58,7 @@ fn highest_of(image: &[u8], at: usize, count: u64) -> u64
 
 // One place takes the highest ordinal of an enum and the highest bit of a flags type.
 fn highest_ordinal(image: &[u8], at: usize) -> u64
-    ensures { λ r. ⌜ ((os : Ordinals) (n : ℕ) → read ordinalsAt (now (image .entry)) at ≡ done os n → r ≡ highest 0 (os .live)) ⌝ }
+    ensures { λ r. ⌜ ((ed : Edition) (os : Ordinals) (n : ℕ) → read (ordinalsAt ed) (now (image .entry)) at ≡ done os n → r ≡ highest 0 (os .live)) ⌝ }
 {
     let count = take(image, at);
     highest_of(image, count.next, count.value)
@@ -103,7 +104,7 @@ fn compute_flags_wire_bytes(top: u64) -> u64
 
 // An undeclared enum keeps the width that is stored.
 fn enum_bits(image: &[u8], at: usize, declared: bool) -> u64
-    ensures { λ r. ⌜ ((e : Enum) (n : ℕ) → read enumAt (now (image .entry)) at ≡ done e n → r ≡ cond declared (enumBits e) (e .storedBits)) ⌝ }
+    ensures { λ r. ⌜ ((ed : Edition) (e : Enum) (n : ℕ) → read (enumAt ed) (now (image .entry)) at ≡ done e n → r ≡ cond declared (enumBits e) (e .storedBits)) ⌝ }
 {
     let backing = take(image, at);
     let non_exhaustive = take(image, backing.next);
@@ -118,7 +119,7 @@ fn enum_bits(image: &[u8], at: usize, declared: bool) -> u64
 
 // So does a flags type.
 fn flags_bytes(image: &[u8], at: usize, declared: bool) -> u64
-    ensures { λ r. ⌜ ((f : Flags) (n : ℕ) → read flagsAt (now (image .entry)) at ≡ done f n → r ≡ cond declared (flagsBytes f) (f .storedBytes)) ⌝ }
+    ensures { λ r. ⌜ ((ed : Edition) (f : Flags) (n : ℕ) → read (flagsAt ed) (now (image .entry)) at ≡ done f n → r ≡ cond declared (flagsBytes f) (f .storedBytes)) ⌝ }
 {
     let stored = take(image, at);
     if declared {
@@ -260,12 +261,12 @@ pub fn put_row(rows: &mut [u64], slot: usize, row: Row)
 }
 
 // The row of each slot.
-fn put_rows(image: &[u8], starts: &[usize], count: usize, declared: &[bool], rows: &mut [u64])
-    requires { ⌜ Known (now image) (now starts) count (now declared) (now rows) ⌝ }
-    ensures { λ _. ⌜ now (rows .exit) ≡ sets (now (rows .entry)) 0 (tableOf (schemaOf (now (image .entry))) (brought (schemaOf (now (image .entry))))) ⌝ }
+fn put_rows(image: &[u8], starts: &[usize], frame: Frame, declared: &[bool], rows: &mut [u64])
+    requires { ⌜ Known (now image) (now starts) frame (now declared) (now rows) ⌝ }
+    ensures { λ _. ⌜ now (rows .exit) ≡ sets (now (rows .entry)) 0 (tableOf (schemaOf (frame .edition) (now (image .entry))) (brought (schemaOf (frame .edition) (now (image .entry))))) ⌝ }
 {
     let mut i: usize = 0;
-    while i < count {
+    while (i as u64) < frame.slots {
         let row = slot_row(image, starts, i, declared[i]);
         put_row(rows, i, row);
         i += 1;
@@ -275,9 +276,9 @@ fn put_rows(image: &[u8], starts: &[usize], count: usize, declared: &[bool], row
 // The rows as they stand before any size is worked out: what the image brings, and the widths.
 pub fn fill_rows(image: &[u8], starts: &[usize], frame: Frame, rows: &mut [u64])
     requires { ⌜ Ready (now image) (now starts) frame (now rows) ⌝ }
-    ensures { λ _. ⌜ now (rows .exit) ≡ sets (now (rows .entry)) 0 (tableOf (schemaOf (now (image .entry))) (brought (schemaOf (now (image .entry))))) ⌝ }
+    ensures { λ _. ⌜ now (rows .exit) ≡ sets (now (rows .entry)) 0 (tableOf (schemaOf (frame .edition) (now (image .entry))) (brought (schemaOf (frame .edition) (now (image .entry))))) ⌝ }
 {
     let mut declared = [false; 512];
     mark_declared(image, frame.declared, frame.declarations, &mut declared);
-    put_rows(image, starts, frame.slots as usize, &declared, rows);
+    put_rows(image, starts, frame, &declared, rows);
 }

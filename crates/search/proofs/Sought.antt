@@ -64,8 +64,8 @@ module _ {s starts : List ℕ} {f : Frame} {finds before : List ℕ} {list start
           };
         }
 
-    pub found-if : (name : ℕ) (r : Bool) → HasField (f .names) s after fields count name expression r
-        → (told : Bool) → told ≡ r → FoundIf (f .names) s list start arguments fields count name expression told
+    pub found-if : (name : ℕ) (r : Bool) → HasField f s after fields count name expression r
+        → (told : Bool) → told ≡ r → FoundIf f s list start arguments fields count name expression told
     found-if name r h told t fs m rf ps ts b e end q =
         let n = noted (looks ps ts b e end q) (places-hold ps ts b e end q) in
         t ∙ h fs m ps ts e end rf (n .sound (sound-before ps ts b)) q (n .known)

@@ -28,7 +28,7 @@ schema =
     }
 
 abbrev field : (fieldName : ℕ) → Tree → Field
-field n t = record { fieldName = n; encoding = default; type = t }
+field n t = record { fieldName = n; encoding = default; type = t; limit = 0 }
 
 -- a message's type of the field 5, a trait's expression for it, where T stands for U8, and whether the one is the other
 pub record Line : Type 0 where

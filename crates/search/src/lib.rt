@@ -23,10 +23,10 @@ pub struct FieldHead {
 }
 
 // The encoding stands between them.
-fn field_head(image: &[u8], at: usize, names: u64) -> FieldHead
-    ensures { λ r. ⌜ Heads names (now (image .entry)) at r ⌝ }
+fn field_head(image: &[u8], at: usize, frame: Frame) -> FieldHead
+    ensures { λ r. ⌜ Heads frame (now (image .entry)) at r ⌝ }
 {
-    match number::read_below(image, at, names) {
+    match number::read_below(image, at, frame.names) {
         Ranged::Value(name, encoding) => match tree::read_encoding(image, encoding) {
             Next::At(place) => FieldHead { name, place },
             Next::Refused(_, place) => FieldHead { name, place },
@@ -47,7 +47,7 @@ fn is_field(
     expression: usize,
 ) -> bool
     requires { ⌜ FieldAsked (now image) (now starts) frame (now finds) (now places) (field .place) expression ⌝ }
-    ensures { λ r. ⌜ IsField (frame .names) (now (image .entry)) (now (places .entry)) field name expression r ⌝ }
+    ensures { λ r. ⌜ IsField frame (now (image .entry)) (now (places .entry)) field name expression r ⌝ }
 {
     if field.name == name {
         match matching::types_compatible(
@@ -83,21 +83,22 @@ fn has_field(
     expression: usize,
 ) -> bool
     requires { ⌜ SearchAsked (now image) (now starts) frame (now finds) (now places) fields count expression ⌝ }
-    ensures { λ r. ⌜ HasField (frame .names) (now (image .entry)) (now (places .entry)) fields count name expression r ⌝ }
+    ensures { λ r. ⌜ HasField frame (now (image .entry)) (now (places .entry)) fields count name expression r ⌝ }
 {
-    let names = frame.names;
+    let edition = frame.edition;
     let mut left = count;
     let mut p = fields;
     let found = loop {
         if left == 0 {
             break false;
         }
-        let field = field_head(image, p, names);
+        let field = field_head(image, p, frame);
         let hit = is_field(image, starts, frame, finds, places, field, name, expression);
         if hit {
             break true;
         }
-        match tree::read_tree(image, field.place, 32, Sort::Resolved, names) {
+        let limited = tree::read_tree(image, field.place, 32, Sort::Resolved, frame.names);
+        match slot::skip_limit(image, limited, edition) {
             Next::At(after) => {
                 p = after;
                 left -= 1;
@@ -139,7 +140,7 @@ pub fn search_field(
     places: &mut [u32],
 ) -> Searched
     requires { ⌜ FieldSought (now image) (now starts) frame (now finds) (now places) «type_params» «type_args» «type_arg_count» fields count expression ⌝ }
-    ensures found { λ r. ⌜ FoundIf (frame .names) (now (image .entry)) «type_params» «type_args» «type_arg_count» fields count name expression (r .found) ⌝ }
+    ensures found { λ r. ⌜ FoundIf frame (now (image .entry)) «type_params» «type_args» «type_arg_count» fields count name expression (r .found) ⌝ }
     ensures look_ups { λ r. ⌜ LooksUp (frame .names) (now (image .entry)) expression (r .«look_ups») (r .next) ⌝ }
     ensures table { λ _. ⌜ PlacesHold (frame .names) (now (image .entry)) «type_params» «type_args» «type_arg_count» expression (now (places .entry)) (now (places .exit)) ⌝ }
 {

@@ -35,7 +35,7 @@ abbrev pub declaring : List ℕ → List Slot → Schema
 declaring ds slots = record { finds = []; slots = slots; declared = ds }
 
 abbrev pub a-field : Encoding → Tree → Field
-a-field e t = record { fieldName = 0; encoding = e; type = t }
+a-field e t = record { fieldName = 0; encoding = e; type = t; limit = 0 }
 
 abbrev pub each : List Tree → List Field
 each [] = []
@@ -57,13 +57,13 @@ abbrev pub a-newtype : Tree → Slot
 a-newtype t = newtype (record { inner = t; terminal = t })
 
 abbrev pub an-enum : (nonExhaustive : ℕ) → List ℕ → Slot
-an-enum x os = enum (record { backing = 0; nonExhaustive = x; storedBits = 0; ordinals = record { live = os } })
+an-enum x os = enum (record { backing = 0; nonExhaustive = x; storedBits = 0; ordinals = record { live = os; retired = [] } })
 
 abbrev pub stored-enum : (bits : ℕ) → List ℕ → Slot
-stored-enum b os = enum (record { backing = 0; nonExhaustive = 0; storedBits = b; ordinals = record { live = os } })
+stored-enum b os = enum (record { backing = 0; nonExhaustive = 0; storedBits = b; ordinals = record { live = os; retired = [] } })
 
 abbrev pub some-flags : List ℕ → Slot
-some-flags bs = flags (record { storedBytes = 0; bits = record { live = bs } })
+some-flags bs = flags (record { storedBytes = 0; bits = record { live = bs; retired = [] } })
 
 abbrev pub bool : Tree
 bool = leaf (primitive 0)

@@ -16,4 +16,5 @@ pub mod Turns
 pub mod Fixed
 pub mod Table
 pub mod Whole
+pub mod Without
 pub mod Examples

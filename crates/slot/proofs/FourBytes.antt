@@ -7,8 +7,10 @@ use native.Mathlib.Omega.{arith}
 use lib.Dec.{ltb}
 use lib.ListN.{length, getD}
 use borrow.Author.Tests.{lt-ltb, le-ltb, ltb-true, ltb-false}
-use Rattle.number.specs.Grammar.{name, kind, number, done, below, read}
-use Rattle.number.proofs.Reading.{read-bind, read-number, number-on, then-on}
+use Rattle.number.specs.Grammar.{name, kind, number, done, below, andThen, read}
+use Rattle.number.specs.Answers.{next}
+use Rattle.number.specs.declared.Next.{Next}
+use Rattle.number.proofs.Reading.{next-then, follow-at, read-bind, read-number, number-on, then-on}
 use Rattle.number.proofs.InRange.{byte-in-range}
 use Rattle.tree.specs.Tree.{leaf, leafKind, leafNumber}
 use Rattle.tree.specs.Encoding.{encodingFill, encodingAt}
@@ -16,7 +18,8 @@ use Rattle.tree.specs.declared.Sort.the-variants.{Resolved}
 use Rattle.tree.proofs.Ranges.{each}
 use Rattle.tree.proofs.TwoBytes.{limited, number-below, leaf-reads}
 use Rattle.tree.proofs.Levels.{nested-on}
-use Rattle.slot.specs.Field.{typeAt, fieldAt}
+use Rattle.slot.specs.Field.{typeAt, limitAt, fieldAt}
+use Rattle.slot.specs.declared.Edition.{Edition}
 use Rattle.tree.specs.Short.{shortLimit, shortLeaf}
 use Rattle.slot.specs.Short.{shortOf, shortAt, shortEncoding, shortField}
 use Rattle.slot.specs.declared.Short.{Short}
@@ -123,15 +126,19 @@ module _ (names : ℕ) (s : List ℕ) (at e k v : ℕ) (h : shortAt names s at �
       leaf-reads Resolved names s (at + 2) k v (b .kind) (b .number ∙ ap (λ (p : ℕ). getD s p 0) third) (omega (arith, b .long)) (b .limit) (omega (arith, number-below k v (b .limit))) 32 (omega arith)
       ∙ ap (done (leaf (shortLeaf k v))) end
 
-  pub short-reads : read (fieldAt names) s at ≡ done (shortField (getD s at 0) e k v) (at + 4)
+  pub short-reads : (ed : Edition) → read (fieldAt ed names) s at ≡ andThen (read (limitAt ed) s (at + 4)) (λ l n. done (shortField (getD s at 0) e k v l) n)
   unfolding fieldAt read
-  short-reads =
+  short-reads ed =
       let b = short-bytes in
       number-on name names _ s at (getD s at 0) (at + 1) (byte at (at + 1) names (getD s at 0) refl (omega (arith, b .long)) (b .name) (b .known) refl)
       ∙ read-bind (encodingAt 32) _ s (at + 1)
       ∙ then-on _ _ encoding-reads
       ∙ read-bind (typeAt names) _ s (at + 2)
       ∙ then-on _ _ type-reads
+      ∙ read-bind (limitAt ed) _ s (at + 4)
+
+  pub short-next : (ed : Edition) → next (read (fieldAt ed names) s at) ≡ next (read (limitAt ed) s (at + 4))
+  short-next ed = ap next (short-reads ed) ∙ next-then (read (limitAt ed) s (at + 4)) _ Next.At (λ l n. refl) ∙ follow-at _
 
   -- what the kind and the number say of the type
   pub short-kind : leafKind (shortLeaf k v) ≡ k

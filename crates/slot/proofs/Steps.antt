@@ -12,6 +12,7 @@ use Rattle.number.proofs.Reading.{number-on, number-refused, read-number, next-
 use Rattle.number.proofs.InRange.{below-is}
 use Rattle.tree.specs.TreeAt.{noKind}
 use Rattle.slot.specs.Field.{Stored, bounded, spanAt, storedTable, storedAt}
+use Rattle.slot.specs.declared.Edition.{Edition}
 use Rattle.slot.specs.Slot.{slotBodyAt, slotAt, traitSpanAt}
 
 module _ (s : List ℕ) (at : ℕ) where
@@ -54,10 +55,10 @@ module _ (s : List ℕ) (at : ℕ) where
   unfolding traitSpanAt
   span-refused r q e = ap next (number-refused kind 2 _ s at r q e)
 
-  pub slot-on : (names k n : ℕ) → below 10 s at ≡ done k n → next (read (slotAt names) s at) ≡ next (read (slotBodyAt names k) s n)
+  pub slot-on : (ed : Edition) (names k n : ℕ) → below 10 s at ≡ done k n → next (read (slotAt ed names) s at) ≡ next (read (slotBodyAt ed names k) s n)
   unfolding slotAt
-  slot-on names k n e = ap next (number-on kind 10 (slotBodyAt names) s at k n e)
+  slot-on ed names k n e = ap next (number-on kind 10 (slotBodyAt ed names) s at k n e)
 
-  pub slot-refused : (names r q : ℕ) → below 10 s at ≡ refused r q → next (read (slotAt names) s at) ≡ Next.Refused r q
+  pub slot-refused : (ed : Edition) (names r q : ℕ) → below 10 s at ≡ refused r q → next (read (slotAt ed names) s at) ≡ Next.Refused r q
   unfolding slotAt
-  slot-refused names r q e = ap next (number-refused kind 10 (slotBodyAt names) s at r q e)
+  slot-refused ed names r q e = ap next (number-refused kind 10 (slotBodyAt ed names) s at r q e)

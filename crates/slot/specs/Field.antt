@@ -7,6 +7,8 @@ use Rattle.tree.specs.Tree.{Tree}
 use Rattle.tree.specs.TreeAt.{treeAt, noKind}
 use Rattle.tree.specs.Encoding.{Encoding, encodingAt}
 use Rattle.tree.specs.declared.Sort.the-variants.{Resolved, Expression}
+use Rattle.slot.specs.declared.Edition.{Edition}
+use Rattle.slot.specs.declared.Edition.the-variants.{One, Two}
 
 -- a type, and an expression, of 32 levels at most
 abbrev pub typeAt : (names : ℕ) → Grammar Tree
@@ -52,13 +54,21 @@ pub record Field : Type 0 where
   pub fieldName : ℕ
   pub encoding : Encoding
   pub type : Tree
+  -- how many elements it may have at most, 0 for no limit
+  pub limit : ℕ
 
-unfoldable pub fieldAt : (names : ℕ) → Grammar Field
-fieldAt names = do
+-- edition one has no limits
+unfoldable pub limitAt : Edition → Grammar ℕ
+limitAt One = give 0
+limitAt Two = number value (2 ^ 32)
+
+unfoldable pub fieldAt : Edition → (names : ℕ) → Grammar Field
+fieldAt ed names = do
   n ← number name names
   e ← encodingAt 32
   t ← typeAt names
-  give (record { fieldName = n; encoding = e; type = t })
+  l ← limitAt ed
+  give (record { fieldName = n; encoding = e; type = t; limit = l })
 
-abbrev pub fieldsAt : (names : ℕ) → Grammar (List Field)
-fieldsAt names = counted (fieldAt names)
+abbrev pub fieldsAt : Edition → (names : ℕ) → Grammar (List Field)
+fieldsAt ed names = counted (fieldAt ed names)

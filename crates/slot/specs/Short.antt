@@ -1,4 +1,4 @@
--- Fields of four bytes: name, encoding, kind and number, a byte each. Most fields are such.
+-- Fields of four bytes up to their limit: name, encoding, kind and number, a byte each. Most fields are such.
 use Prim.Native.Nat.{ℕ, _+_}
 use mathlib.Core.List.{List, [], _∷_}
 use mathlib.Core.Bool.{cond}
@@ -19,9 +19,9 @@ shortOf n e k v names =
 unfoldable pub shortAt : (names : ℕ) → List ℕ → (at : ℕ) → Short
 shortAt names s at = cond (ltb (length s) (at + 4)) Short.Other (shortOf (getD s at 0) (getD s (at + 1) 0) (getD s (at + 2) 0) (getD s (at + 3) 0) names)
 
--- the encoding and the type of such a field
+-- the encoding and the type of such a field; a limit follows the four bytes
 abbrev pub shortEncoding : ℕ → Encoding
 shortEncoding e = getD (default ∷ varint ∷ zigZag ∷ []) e default
 
-abbrev pub shortField : (name encoding kind number : ℕ) → Field
-shortField n e k v = record { fieldName = n; encoding = shortEncoding e; type = leaf (shortLeaf k v) }
+abbrev pub shortField : (name encoding kind number limit : ℕ) → Field
+shortField n e k v l = record { fieldName = n; encoding = shortEncoding e; type = leaf (shortLeaf k v); limit = l }

@@ -6,6 +6,8 @@ use lib.ListN.{getD}
 use Rattle.number.specs.Grammar.{kind, name, slot, value, Grammar, give, _>>=_, number, counted}
 use Rattle.tree.specs.Tree.{Tree}
 use Rattle.tree.specs.TreeAt.{noKind}
+use Rattle.slot.specs.declared.Edition.{Edition}
+use Rattle.slot.specs.declared.Edition.the-variants.{One, Two}
 use Rattle.slot.specs.Field.{typeAt, expressionAt, Span, spanAt, Stored, storedAt, Field, fieldsAt}
 
 pub record Message : Type 0 where
@@ -13,21 +15,28 @@ pub record Message : Type 0 where
   pub stored : Stored
   pub fields : List Field
 
-unfoldable pub messageAt : (names : ℕ) → Grammar Message
-messageAt names = do
+unfoldable pub messageAt : Edition → (names : ℕ) → Grammar Message
+messageAt ed names = do
   p ← spanAt
   z ← storedAt
-  fs ← fieldsAt names
+  fs ← fieldsAt ed names
   give (record { span = p; stored = z; fields = fs })
 
 -- the ordinals of an enum, or the bits of a flags type
 pub record Ordinals : Type 0 where
   pub live : List ℕ
+  pub retired : List ℕ
 
-unfoldable pub ordinalsAt : Grammar Ordinals
-ordinalsAt = do
+-- edition one has none
+unfoldable pub retiredAt : Edition → Grammar (List ℕ)
+retiredAt One = give []
+retiredAt Two = counted (number value (2 ^ 32))
+
+unfoldable pub ordinalsAt : Edition → Grammar Ordinals
+ordinalsAt ed = do
   os ← counted (number value (2 ^ 32))
-  give (record { live = os })
+  rs ← retiredAt ed
+  give (record { live = os; retired = rs })
 
 -- the backing is 0 for none and 1 to 4 for U8 to U64; non_exhaustive is 0 or 1
 pub record Enum : Type 0 where
@@ -36,32 +45,32 @@ pub record Enum : Type 0 where
   pub storedBits : ℕ
   pub ordinals : Ordinals
 
-unfoldable pub enumAt : Grammar Enum
-enumAt = do
+unfoldable pub enumAt : Edition → Grammar Enum
+enumAt ed = do
   b ← number value 5
   x ← number value 2
   w ← number value 256
-  os ← ordinalsAt
+  os ← ordinalsAt ed
   give (record { backing = b; nonExhaustive = x; storedBits = w; ordinals = os })
 
 pub record Flags : Type 0 where
   pub storedBytes : ℕ
   pub bits : Ordinals
 
-unfoldable pub flagsAt : Grammar Flags
-flagsAt = do
+unfoldable pub flagsAt : Edition → Grammar Flags
+flagsAt ed = do
   w ← number value 256
-  bs ← ordinalsAt
+  bs ← ordinalsAt ed
   give (record { storedBytes = w; bits = bs })
 
 pub record Union : Type 0 where
   pub stored : Stored
   pub variants : List (List Field)
 
-unfoldable pub unionAt : (names : ℕ) → Grammar Union
-unionAt names = do
+unfoldable pub unionAt : Edition → (names : ℕ) → Grammar Union
+unionAt ed names = do
   z ← storedAt
-  vs ← counted (fieldsAt names)
+  vs ← counted (fieldsAt ed names)
   give (record { stored = z; variants = vs })
 
 pub record Newtype : Type 0 where
@@ -147,13 +156,13 @@ made f g = do
   give (f x)
 
 -- what each kind holds, from kind 0 on
-abbrev pub slotTable : (names : ℕ) → List (Grammar Slot)
-slotTable names =
+abbrev pub slotTable : Edition → (names : ℕ) → List (Grammar Slot)
+slotTable ed names =
     give empty
-    ∷ made message (messageAt names)
-    ∷ made enum enumAt
-    ∷ made flags flagsAt
-    ∷ made union (unionAt names)
+    ∷ made message (messageAt ed names)
+    ∷ made enum (enumAt ed)
+    ∷ made flags (flagsAt ed)
+    ∷ made union (unionAt ed names)
     ∷ made newtype (newtypeAt names)
     ∷ give config
     ∷ made alias (aliasAt names)
@@ -161,13 +170,13 @@ slotTable names =
     ∷ made impl (implAt names)
     ∷ []
 
-unfoldable pub slotBodyAt : (names k : ℕ) → Grammar Slot
-slotBodyAt names k = getD (slotTable names) k noKind
+unfoldable pub slotBodyAt : Edition → (names k : ℕ) → Grammar Slot
+slotBodyAt ed names k = getD (slotTable ed names) k noKind
 
-unfoldable pub slotAt : (names : ℕ) → Grammar Slot
-slotAt names = do
+unfoldable pub slotAt : Edition → (names : ℕ) → Grammar Slot
+slotAt ed names = do
   k ← number kind 10
-  slotBodyAt names k
+  slotBodyAt ed names k
 
 -- a slot's kind in the image
 abbrev pub slotKind : Slot → ℕ

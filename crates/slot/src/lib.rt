@@ -6,9 +6,15 @@ use tree::Sort;
 ghost use mathlib.Core.Path.{_≡_};
 ghost use Rattle.number.specs.Grammar.{many, counted, read};
 ghost use Rattle.number.specs.Answers.{next, follow};
-ghost use Rattle.slot.specs.Field.{typeAt, spanAt, storedAt, fieldAt, fieldsAt};
+ghost use Rattle.slot.specs.Field.{typeAt, spanAt, storedAt, limitAt, fieldAt, fieldsAt};
 ghost use Rattle.slot.specs.Short.{shortOf, shortAt};
-ghost use Rattle.slot.specs.Slot.{messageAt, ordinalsAt, enumAt, flagsAt, unionAt, newtypeAt, aliasAt, traitFieldAt, traitAt, traitSpanAt, implAt, slotBodyAt, slotAt};
+ghost use Rattle.slot.specs.Slot.{messageAt, retiredAt, ordinalsAt, enumAt, flagsAt, unionAt, newtypeAt, aliasAt, traitFieldAt, traitAt, traitSpanAt, implAt, slotBodyAt, slotAt};
+
+// Edition two has a limit behind each field of a message or variant, and retired ones behind each list of ordinals or bits.
+pub enum Edition {
+    One,
+    Two,
+}
 
 pub fn skip_span(image: &[u8], cursor: Next) -> Next
     ensures { λ r. ⌜ r ≡ follow cursor (λ n. next (read spanAt (now (image .entry)) n)) ⌝ }
@@ -44,12 +50,23 @@ pub fn skip_stored(image: &[u8], cursor: Next) -> Next
     }
 }
 
-pub fn skip_field(image: &[u8], cursor: Next, names: u64) -> Next
-    ensures { λ r. ⌜ r ≡ follow cursor (λ n. next (read (fieldAt names) (now (image .entry)) n)) ⌝ }
+// What stands between a field's type and the next field.
+pub fn skip_limit(image: &[u8], cursor: Next, edition: Edition) -> Next
+    ensures { λ r. ⌜ r ≡ follow cursor (λ n. next (read (limitAt edition) (now (image .entry)) n)) ⌝ }
+{
+    match edition {
+        Edition::One => cursor,
+        Edition::Two => number::skip(image, cursor, 4294967296),
+    }
+}
+
+pub fn skip_field(image: &[u8], cursor: Next, edition: Edition, names: u64) -> Next
+    ensures { λ r. ⌜ r ≡ follow cursor (λ n. next (read (fieldAt edition names) (now (image .entry)) n)) ⌝ }
 {
     let name = number::skip(image, cursor, names);
     let encoding = tree::skip_encoding(image, name);
-    tree::skip_tree(image, encoding, Sort::Resolved, names)
+    let limited = tree::skip_tree(image, encoding, Sort::Resolved, names);
+    skip_limit(image, limited, edition)
 }
 
 // A field of four bytes: its encoding, and the kind and the number of its type.
@@ -91,22 +108,22 @@ pub fn short_field(image: &[u8], at: usize, names: u64) -> Short
 }
 
 // The position after a field.
-fn next_field(image: &[u8], at: usize, names: u64) -> Next
-    ensures { λ r. ⌜ r ≡ next (read (fieldAt names) (now (image .entry)) at) ⌝ }
+fn next_field(image: &[u8], at: usize, edition: Edition, names: u64) -> Next
+    ensures { λ r. ⌜ r ≡ next (read (fieldAt edition names) (now (image .entry)) at) ⌝ }
 {
     match short_field(image, at, names) {
-        Short::Is(_, _, _) => Next::At(at + 4),
-        Short::Other => skip_field(image, Next::At(at), names),
+        Short::Is(_, _, _) => skip_limit(image, Next::At(at + 4), edition),
+        Short::Other => skip_field(image, Next::At(at), edition, names),
     }
 }
 
-fn read_fields(image: &[u8], at: usize, count: u64, names: u64) -> Next
-    ensures { λ r. ⌜ r ≡ next (read (many count (fieldAt names)) (now (image .entry)) at) ⌝ }
+fn read_fields(image: &[u8], at: usize, edition: Edition, count: u64, names: u64) -> Next
+    ensures { λ r. ⌜ r ≡ next (read (many count (fieldAt edition names)) (now (image .entry)) at) ⌝ }
 {
     let mut left = count;
     let mut p = at;
     while 0 < left {
-        match next_field(image, p, names) {
+        match next_field(image, p, edition, names) {
             Next::At(after) => {
                 p = after;
                 left -= 1;
@@ -119,56 +136,66 @@ fn read_fields(image: &[u8], at: usize, count: u64, names: u64) -> Next
     Next::At(p)
 }
 
-pub fn skip_fields(image: &[u8], cursor: Next, names: u64) -> Next
-    ensures { λ r. ⌜ r ≡ follow cursor (λ n. next (read (fieldsAt names) (now (image .entry)) n)) ⌝ }
+pub fn skip_fields(image: &[u8], cursor: Next, edition: Edition, names: u64) -> Next
+    ensures { λ r. ⌜ r ≡ follow cursor (λ n. next (read (fieldsAt edition names) (now (image .entry)) n)) ⌝ }
 {
     match cursor {
         Next::At(p) => match number::read_below(image, p, 65537) {
-            Ranged::Value(count, after) => read_fields(image, after, count, names),
+            Ranged::Value(count, after) => read_fields(image, after, edition, count, names),
             Ranged::Refused(r, q) => Next::Refused(r, q),
         },
         Next::Refused(r, q) => Next::Refused(r, q),
     }
 }
 
-fn skip_message(image: &[u8], cursor: Next, names: u64) -> Next
-    ensures { λ r. ⌜ r ≡ follow cursor (λ n. next (read (messageAt names) (now (image .entry)) n)) ⌝ }
+fn skip_message(image: &[u8], cursor: Next, edition: Edition, names: u64) -> Next
+    ensures { λ r. ⌜ r ≡ follow cursor (λ n. next (read (messageAt edition names) (now (image .entry)) n)) ⌝ }
 {
     let span = skip_span(image, cursor);
     let stored = skip_stored(image, span);
-    skip_fields(image, stored, names)
+    skip_fields(image, stored, edition, names)
+}
+
+fn skip_retired(image: &[u8], live: Next, edition: Edition) -> Next
+    ensures { λ r. ⌜ r ≡ follow live (λ n. next (read (retiredAt edition) (now (image .entry)) n)) ⌝ }
+{
+    match edition {
+        Edition::One => live,
+        Edition::Two => number::skip_counted(image, live, 4294967296),
+    }
 }
 
 // One place reads the ordinals of an enum and the bits of a flags type.
-fn skip_ordinals(image: &[u8], cursor: Next) -> Next
-    ensures { λ r. ⌜ r ≡ follow cursor (λ n. next (read ordinalsAt (now (image .entry)) n)) ⌝ }
+fn skip_ordinals(image: &[u8], cursor: Next, edition: Edition) -> Next
+    ensures { λ r. ⌜ r ≡ follow cursor (λ n. next (read (ordinalsAt edition) (now (image .entry)) n)) ⌝ }
 {
-    number::skip_counted(image, cursor, 4294967296)
+    let live = number::skip_counted(image, cursor, 4294967296);
+    skip_retired(image, live, edition)
 }
 
-fn skip_enum(image: &[u8], cursor: Next) -> Next
-    ensures { λ r. ⌜ r ≡ follow cursor (λ n. next (read enumAt (now (image .entry)) n)) ⌝ }
+fn skip_enum(image: &[u8], cursor: Next, edition: Edition) -> Next
+    ensures { λ r. ⌜ r ≡ follow cursor (λ n. next (read (enumAt edition) (now (image .entry)) n)) ⌝ }
 {
     let backing = number::skip(image, cursor, 5);
     let non_exhaustive = number::skip(image, backing, 2);
     let stored_bits = number::skip(image, non_exhaustive, 256);
-    skip_ordinals(image, stored_bits)
+    skip_ordinals(image, stored_bits, edition)
 }
 
-fn skip_flags(image: &[u8], cursor: Next) -> Next
-    ensures { λ r. ⌜ r ≡ follow cursor (λ n. next (read flagsAt (now (image .entry)) n)) ⌝ }
+fn skip_flags(image: &[u8], cursor: Next, edition: Edition) -> Next
+    ensures { λ r. ⌜ r ≡ follow cursor (λ n. next (read (flagsAt edition) (now (image .entry)) n)) ⌝ }
 {
     let stored_bytes = number::skip(image, cursor, 256);
-    skip_ordinals(image, stored_bytes)
+    skip_ordinals(image, stored_bytes, edition)
 }
 
-fn read_variants(image: &[u8], at: usize, count: u64, names: u64) -> Next
-    ensures { λ r. ⌜ r ≡ next (read (many count (fieldsAt names)) (now (image .entry)) at) ⌝ }
+fn read_variants(image: &[u8], at: usize, edition: Edition, count: u64, names: u64) -> Next
+    ensures { λ r. ⌜ r ≡ next (read (many count (fieldsAt edition names)) (now (image .entry)) at) ⌝ }
 {
     let mut left = count;
     let mut p = at;
     while 0 < left {
-        match skip_fields(image, Next::At(p), names) {
+        match skip_fields(image, Next::At(p), edition, names) {
             Next::At(after) => {
                 p = after;
                 left -= 1;
@@ -181,23 +208,23 @@ fn read_variants(image: &[u8], at: usize, count: u64, names: u64) -> Next
     Next::At(p)
 }
 
-fn skip_variants(image: &[u8], cursor: Next, names: u64) -> Next
-    ensures { λ r. ⌜ r ≡ follow cursor (λ n. next (read (counted (fieldsAt names)) (now (image .entry)) n)) ⌝ }
+fn skip_variants(image: &[u8], cursor: Next, edition: Edition, names: u64) -> Next
+    ensures { λ r. ⌜ r ≡ follow cursor (λ n. next (read (counted (fieldsAt edition names)) (now (image .entry)) n)) ⌝ }
 {
     match cursor {
         Next::At(p) => match number::read_below(image, p, 65537) {
-            Ranged::Value(count, after) => read_variants(image, after, count, names),
+            Ranged::Value(count, after) => read_variants(image, after, edition, count, names),
             Ranged::Refused(r, q) => Next::Refused(r, q),
         },
         Next::Refused(r, q) => Next::Refused(r, q),
     }
 }
 
-fn skip_union(image: &[u8], cursor: Next, names: u64) -> Next
-    ensures { λ r. ⌜ r ≡ follow cursor (λ n. next (read (unionAt names) (now (image .entry)) n)) ⌝ }
+fn skip_union(image: &[u8], cursor: Next, edition: Edition, names: u64) -> Next
+    ensures { λ r. ⌜ r ≡ follow cursor (λ n. next (read (unionAt edition names) (now (image .entry)) n)) ⌝ }
 {
     let stored = skip_stored(image, cursor);
-    skip_variants(image, stored, names)
+    skip_variants(image, stored, edition, names)
 }
 
 fn skip_newtype(image: &[u8], cursor: Next, names: u64) -> Next
@@ -319,16 +346,16 @@ fn skip_impl(image: &[u8], cursor: Next, names: u64) -> Next
 }
 
 // What a slot of a kind holds.
-fn read_slot_body(image: &[u8], at: usize, kind: u64, names: u64) -> Next
-    ensures { λ r. ⌜ r ≡ next (read (slotBodyAt names kind) (now (image .entry)) at) ⌝ }
+fn read_slot_body(image: &[u8], at: usize, edition: Edition, kind: u64, names: u64) -> Next
+    ensures { λ r. ⌜ r ≡ next (read (slotBodyAt edition names kind) (now (image .entry)) at) ⌝ }
 {
     let body = Next::At(at);
     match kind {
         0 | 6 => body,
-        1 => skip_message(image, body, names),
-        2 => skip_enum(image, body),
-        3 => skip_flags(image, body),
-        4 => skip_union(image, body, names),
+        1 => skip_message(image, body, edition, names),
+        2 => skip_enum(image, body, edition),
+        3 => skip_flags(image, body, edition),
+        4 => skip_union(image, body, edition, names),
         5 => skip_newtype(image, body, names),
         7 => skip_alias(image, body, names),
         8 => skip_trait(image, body, names),
@@ -337,11 +364,11 @@ fn read_slot_body(image: &[u8], at: usize, kind: u64, names: u64) -> Next
     }
 }
 
-pub fn read_slot(image: &[u8], at: usize, names: u64) -> Next
-    ensures { λ r. ⌜ r ≡ next (read (slotAt names) (now (image .entry)) at) ⌝ }
+pub fn read_slot(image: &[u8], at: usize, edition: Edition, names: u64) -> Next
+    ensures { λ r. ⌜ r ≡ next (read (slotAt edition names) (now (image .entry)) at) ⌝ }
 {
     match number::read_below(image, at, 10) {
-        Ranged::Value(kind, body) => read_slot_body(image, body, kind, names),
+        Ranged::Value(kind, body) => read_slot_body(image, body, edition, kind, names),
         Ranged::Refused(r, q) => Next::Refused(r, q),
     }
 }

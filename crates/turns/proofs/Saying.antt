@@ -23,13 +23,14 @@ use Rattle.turns.specs.Sizing.{verdict, rowsIn, sizingIn, sizeRowsIn, si
 use Rattle.turns.specs.declared.Sizing.{Sizing}
 use Rattle.turns.specs.declared.Passed.{Passed}
 use Rattle.table.proofs.Fitting.{fitted-front, written-on}
+use Rattle.slot.specs.declared.Edition.{Edition}
 
 not-accepted : {n p : ℕ} → Sizing.Refused n p ≡ Sizing.Accepted → ⊥
 not-accepted e = let z : _≡_ {A = ℕ} 0 1 = cc in omega arith
 
-module _ (s before after : List ℕ) where
+module _ (S : Schema) (before after : List ℕ) where
   -- refusal 10
-  pub few-places : length before < 3 * length (schemaOf s .slots) → after ≡ fitted (length before) [] → SizesSaid s before after (Sizing.Refused 10 0)
+  pub few-places : length before < 3 * length (S .slots) → after ≡ fitted (length before) [] → SizesSaid S before after (Sizing.Refused 10 0)
   unfolding sizingIn sizeRowsIn
   few-places h e =
       record {
@@ -38,53 +39,57 @@ module _ (s before after : List ℕ) where
         demand = λ q. absurd (not-accepted q);
       }
 
-  module _ (h : 3 * length (schemaOf s .slots) ≤ length before) where
+  module _ (h : 3 * length (S .slots) ≤ length before) where
     -- refusals 11 and 14
-    pub passed-limit : (o : Operation) (i m n : ℕ) → m ≡ refusalOf o → n ≡ length before → checkSizes (schemaOf s) ≡ check.refused o i → after ≡ fitted n []
-        → SizesSaid s before after (Sizing.Refused m i)
+    pub passed-limit : (o : Operation) (i m n : ℕ) → m ≡ refusalOf o → n ≡ length before → checkSizes S ≡ check.refused o i → after ≡ fitted n []
+        → SizesSaid S before after (Sizing.Refused m i)
     unfolding sizingIn sizeRowsIn
     passed-limit o i m n x l c e =
         record {
           answer = λ f. ap (λ (k : ℕ). Sizing.Refused k i) x ∙ simp (le-ltb _ _ h) (sym (ap verdict c));
-          table = λ f. e ∙ ap (λ (k : ℕ). fitted k []) l ∙ simp (le-ltb _ _ h) (sym (ap (λ (x : Checked). fitted (length before) (rowsIn (schemaOf s) x)) c));
+          table = λ f. e ∙ ap (λ (k : ℕ). fitted k []) l ∙ simp (le-ltb _ _ h) (sym (ap (λ (x : Checked). fitted (length before) (rowsIn S x)) c));
           demand = λ q. absurd (not-accepted q);
         }
 
     -- the table
-    pub all-passed : (zeros : List ℕ) → zeros ≡ fitted (length before) [] → Through (schemaOf s) zeros after Passed.All → SizesSaid s before after Sizing.Accepted
+    pub all-passed : (zeros : List ℕ) → zeros ≡ fitted (length before) [] → Through S zeros after Passed.All → SizesSaid S before after Sizing.Accepted
     unfolding sizingIn sizeRowsIn
     all-passed zeros e t =
         let st = t .0 in
-        let n = table-length (schemaOf s) st in
-        let w : after ≡ fitted (length before) (tableOf (schemaOf s) st) =
-        t .2 ∙ ap (λ (l : List ℕ). sets l 0 (tableOf (schemaOf s) st)) e ∙ written-on (length before) [] (tableOf (schemaOf s) st) in
-        let r = fitted-front (length before) (tableOf (schemaOf s) st) (omega arith) in
+        let n = table-length S st in
+        let w : after ≡ fitted (length before) (tableOf S st) =
+        t .2 ∙ ap (λ (l : List ℕ). sets l 0 (tableOf S st)) e ∙ written-on (length before) [] (tableOf S st) in
+        let r = fitted-front (length before) (tableOf S st) (omega arith) in
         record {
           answer = λ f. simp (le-ltb _ _ h) (sym (ap verdict (t .1)));
-          table = λ f. w ∙ simp (le-ltb _ _ h) (sym (ap (λ (x : Checked). fitted (length before) (rowsIn (schemaOf s) x)) (t .1)));
-          demand = λ q. subst (λ (l : List ℕ). Demand3 (schemaOf s) l) (sym (w ∙ r .1)) (demand3 (schemaOf s) st (t .1) (r .0));
+          table = λ f. w ∙ simp (le-ltb _ _ h) (sym (ap (λ (x : Checked). fitted (length before) (rowsIn S x)) (t .1)));
+          demand = λ q. subst (λ (l : List ℕ). Demand3 S l) (sym (w ∙ r .1)) (demand3 S st (t .1) (r .0));
         }
 
-  pub read-said : (f : Frame) (x : Reading) (r : Sizing) → x ≡ readingOf s → x ≡ Reading.Accepted f → SizesSaid s before after r → Answered s before after r
+-- of an image that was read, or refused by reading
+module _ (ed : Edition) (s before after : List ℕ) where
+  pub read-said : (f : Frame) (x : Reading) (r : Sizing) → x ≡ readingOf ed s → x ≡ Reading.Accepted f → f .edition ≡ ed
+      → SizesSaid (schemaOf (f .edition) s) before after r → Answered ed s before after r
   unfolding sizingOf sizesOf
-  read-said f x r e q d =
+  read-said f x r e q m d =
       let k = sym q ∙ e in
+      let d = subst (λ (y : Edition). SizesSaid (schemaOf y s) before after r) m d in
       record {
-        answer = d .answer f ∙ ap (sizingIn (length before) (schemaOf s)) k;
-        table = d .table f ∙ ap (λ (y : Reading). fitted (length before) (sizeRowsIn (length before) (schemaOf s) y)) k;
+        answer = d .answer f ∙ ap (sizingIn (length before) (schemaOf ed s)) k;
+        table = d .table f ∙ ap (λ (y : Reading). fitted (length before) (sizeRowsIn (length before) (schemaOf ed s) y)) k;
         demand = d .demand;
-        names = names-obey s;
+        names = names-obey ed s;
       }
 
-  pub refused-said : (n p : ℕ) (x : Reading) → x ≡ readingOf s → x ≡ Reading.Refused n p → after ≡ fitted (length before) [] → Answered s before after (Sizing.Refused n p)
+  pub refused-said : (n p : ℕ) (x : Reading) → x ≡ readingOf ed s → x ≡ Reading.Refused n p → after ≡ fitted (length before) [] → Answered ed s before after (Sizing.Refused n p)
   unfolding sizingOf sizesOf sizingIn sizeRowsIn
   refused-said n p x e q t =
       let k = sym q ∙ e in
       record {
-        answer = ap (sizingIn (length before) (schemaOf s)) k;
-        table = t ∙ ap (λ (y : Reading). fitted (length before) (sizeRowsIn (length before) (schemaOf s) y)) k;
+        answer = ap (sizingIn (length before) (schemaOf ed s)) k;
+        table = t ∙ ap (λ (y : Reading). fitted (length before) (sizeRowsIn (length before) (schemaOf ed s) y)) k;
         demand = λ z. absurd (not-accepted z);
-        names = names-obey s;
+        names = names-obey ed s;
       }
 
 -- what the code's answer says, once it was matched

@@ -10,7 +10,6 @@ use Rattle.number.specs.Grammar.{slot, number, many, done, refused, below, read
 use Rattle.number.proofs.Reading.{not-done, given, read-number, front}
 use Rattle.slot.specs.Slot.{Slot, empty, message, enum, flags, union, newtype, config, alias, trait, impl}
 use Rattle.image.specs.Schema.{Schema, slotOf}
-use Rattle.reader.specs.Reading.{schemaOf}
 use Rattle.sizes.specs.declared.Size.{Size}
 use Rattle.sizes.specs.declared.Operation.{Operation}
 use Rattle.sizes.specs.declared.Worked.{Worked}
@@ -170,7 +169,7 @@ module _ (s : List ℕ) (S : Schema) (l₀ : List ℕ) where
                 }
 
 -- at each turn the table holds a state
-pub turn-held : (s l₀ rows : List ℕ) (p left : ℕ) → Begun s l₀ → Going s (schemaOf s) l₀ rows p left → Held s rows
-turn-held s l₀ rows p left b g =
+pub turn-held : (s : List ℕ) (S : Schema) (l₀ rows : List ℕ) (p left : ℕ) → Begun S l₀ → Going s S l₀ rows p left → Held S rows
+turn-held s S l₀ rows p left b g =
     let w = g .left-over (b .base) (b .room) (b .filled) in
-    record { state = w .state; holds = holds (schemaOf s) (w .state) (b .base) rows (b .room) (w .held) }
+    record { state = w .state; holds = holds S (w .state) (b .base) rows (b .room) (w .held) }

@@ -18,6 +18,7 @@ use Rattle.table.specs.Fitted.{fitted}
 use Rattle.turns.specs.declared.Sizing.{Sizing}
 use Rattle.turns.specs.declared.Taken.{Taken}
 use Rattle.turns.specs.declared.Passed.{Passed}
+use Rattle.slot.specs.declared.Edition.{Edition}
 
 -- refusal 11 or 14 at the declared slot being worked
 abbrev pub verdict : Checked → Sizing
@@ -38,35 +39,35 @@ sizeRowsIn places S (Reading.Refused r p) = []
 sizeRowsIn places S (Reading.Accepted f) = cond (ltb places (3 * length (S .slots))) [] (rowsIn S (checkSizes S))
 
 -- the answer, refusals 1 to 11 and 14
-unfoldable pub sizingOf : (places : ℕ) → List ℕ → Sizing
-sizingOf places s = sizingIn places (schemaOf s) (readingOf s)
+unfoldable pub sizingOf : Edition → (places : ℕ) → List ℕ → Sizing
+sizingOf ed places s = sizingIn places (schemaOf ed s) (readingOf ed s)
 
 -- the table: three numbers a slot, places left over zero, all zero on a refusal
-unfoldable pub sizesOf : (places : ℕ) → List ℕ → List ℕ
-sizesOf places s = fitted places (sizeRowsIn places (schemaOf s) (readingOf s))
+unfoldable pub sizesOf : Edition → (places : ℕ) → List ℕ → List ℕ
+sizesOf ed places s = fitted places (sizeRowsIn places (schemaOf ed s) (readingOf ed s))
 
 -- of the schema of an image that is read, one that 10, 11, 12 or 14 refuses too
-abbrev pub WhenRead : List ℕ → (Schema → Type 0) → Type 0
-WhenRead s P = (f : Frame) → readingOf s ≡ Reading.Accepted f → P (schemaOf s)
+abbrev pub WhenRead : Edition → List ℕ → (Schema → Type 0) → Type 0
+WhenRead ed s P = (f : Frame) → readingOf ed s ≡ Reading.Accepted f → P (schemaOf ed s)
 
 -- what is said of the answer and of the table that the caller holds afterwards; on acceptance demand 3 holds of it
-pub record Answered (s before after : List ℕ) (r : Sizing) : Type 0 where
-  pub answer : r ≡ sizingOf (length before) s
-  pub table : after ≡ sizesOf (length before) s
-  pub demand : r ≡ Sizing.Accepted → Demand3 (schemaOf s) after
-  pub names : WhenRead s NamesObey
+pub record Answered (ed : Edition) (s before after : List ℕ) (r : Sizing) : Type 0 where
+  pub answer : r ≡ sizingOf ed (length before) s
+  pub table : after ≡ sizesOf ed (length before) s
+  pub demand : r ≡ Sizing.Accepted → Demand3 (schemaOf ed s) after
+  pub names : WhenRead ed s NamesObey
 
--- the same of an image that was read
-pub record SizesSaid (s before after : List ℕ) (r : Sizing) : Type 0 where
-  pub answer : (f : Frame) → r ≡ sizingIn (length before) (schemaOf s) (Reading.Accepted f)
-  pub table : (f : Frame) → after ≡ fitted (length before) (sizeRowsIn (length before) (schemaOf s) (Reading.Accepted f))
-  pub demand : r ≡ Sizing.Accepted → Demand3 (schemaOf s) after
+-- the same of the schema of an image that was read
+pub record SizesSaid (S : Schema) (before after : List ℕ) (r : Sizing) : Type 0 where
+  pub answer : (f : Frame) → r ≡ sizingIn (length before) S (Reading.Accepted f)
+  pub table : (f : Frame) → after ≡ fitted (length before) (sizeRowsIn (length before) S (Reading.Accepted f))
+  pub demand : r ≡ Sizing.Accepted → Demand3 S after
 
 -- the sizes that the image brings stand in the table, before the first turn
-pub record Begun (s rows : List ℕ) : Type 0 where
+pub record Begun (S : Schema) (rows : List ℕ) : Type 0 where
   pub base : List ℕ
-  pub room : 3 * length (schemaOf s .slots) ≤ length base
-  pub filled : rows ≡ sets base 0 (tableOf (schemaOf s) (brought (schemaOf s)))
+  pub room : 3 * length (S .slots) ≤ length base
+  pub filled : rows ≡ sets base 0 (tableOf S (brought S))
 
 -- a place of the declaration list was passed: the rows hold the sizes stored then, or a number passed the limit
 abbrev pub TurnTaken : Schema → State → (slot : ℕ) → (l after : List ℕ) → Taken → Type 0

@@ -3,6 +3,7 @@ use image::Frame;
 use number::Ranged;
 use reader::Reading;
 use sizes::Operation;
+use slot::Edition;
 use wiresize::Turned;
 ghost use mathlib.Core.Path.{_≡_};
 ghost use mathlib.Core.List.{List};
@@ -47,8 +48,8 @@ fn refusal_of(by: Operation) -> u8
 
 // One place of the declaration list.
 fn take_turn(image: &[u8], starts: &[usize], frame: Frame, rows: &mut [u64], slot: u64) -> Taken
-    requires { ⌜ Promise (now image) (now starts) frame × (3 * frame .slots ≤ length (now rows)) × Held (now image) (now rows) ⌝ }
-    ensures { λ r. ⌜ ((l : List ℕ) (st : State) → 3 * length (schemaOf (now (image .entry)) .slots) ≤ length l → now (rows .entry) ≡ sets l 0 (tableOf (schemaOf (now (image .entry))) st) → TurnTaken (schemaOf (now (image .entry))) st slot l (now (rows .exit)) r) ⌝ }
+    requires { ⌜ Promise (now image) (now starts) frame × (3 * frame .slots ≤ length (now rows)) × Held (schemaOf (frame .edition) (now image)) (now rows) ⌝ }
+    ensures { λ r. ⌜ ((l : List ℕ) (st : State) → 3 * length (schemaOf (frame .edition) (now (image .entry)) .slots) ≤ length l → now (rows .entry) ≡ sets l 0 (tableOf (schemaOf (frame .edition) (now (image .entry))) st) → TurnTaken (schemaOf (frame .edition) (now (image .entry))) st slot l (now (rows .exit)) r) ⌝ }
 {
     if frame.slots <= slot {
         return Taken::On;
@@ -66,8 +67,8 @@ fn take_turn(image: &[u8], starts: &[usize], frame: Frame, rows: &mut [u64], slo
 
 // All places in order, up to the first at which a number passes the limit.
 fn take_turns(image: &[u8], starts: &[usize], frame: Frame, rows: &mut [u64]) -> Passed
-    requires { ⌜ Promise (now image) (now starts) frame × (3 * frame .slots ≤ length (now rows)) × Begun (now image) (now rows) ⌝ }
-    ensures { λ r. ⌜ ((l : List ℕ) → 3 * length (schemaOf (now (image .entry)) .slots) ≤ length l → now (rows .entry) ≡ sets l 0 (tableOf (schemaOf (now (image .entry))) (brought (schemaOf (now (image .entry))))) → Through (schemaOf (now (image .entry))) l (now (rows .exit)) r) ⌝ }
+    requires { ⌜ Promise (now image) (now starts) frame × (3 * frame .slots ≤ length (now rows)) × Begun (schemaOf (frame .edition) (now image)) (now rows) ⌝ }
+    ensures { λ r. ⌜ ((l : List ℕ) → 3 * length (schemaOf (frame .edition) (now (image .entry)) .slots) ≤ length l → now (rows .entry) ≡ sets l 0 (tableOf (schemaOf (frame .edition) (now (image .entry))) (brought (schemaOf (frame .edition) (now (image .entry))))) → Through (schemaOf (frame .edition) (now (image .entry))) l (now (rows .exit)) r) ⌝ }
 {
     let mut left = frame.declarations;
     let mut p = frame.declared;
@@ -93,7 +94,7 @@ fn take_turns(image: &[u8], starts: &[usize], frame: Frame, rows: &mut [u64]) ->
 // An accepted image: refusals 10, 11 and 14, or the table. The rows are worked on where the caller finds them.
 pub fn size_slots(image: &[u8], starts: &[usize], frame: Frame, sizes: &mut [u64]) -> Sizing
     requires { ⌜ Promise (now image) (now starts) frame ⌝ }
-    ensures { λ r. ⌜ SizesSaid (now (image .entry)) (now (sizes .entry)) (now (sizes .exit)) r ⌝ }
+    ensures { λ r. ⌜ SizesSaid (schemaOf (frame .edition) (now (image .entry))) (now (sizes .entry)) (now (sizes .exit)) r ⌝ }
 {
     table::clear(sizes);
     if (sizes.len() as u64) < 3 * frame.slots {
@@ -109,12 +110,12 @@ pub fn size_slots(image: &[u8], starts: &[usize], frame: Frame, sizes: &mut [u64
     }
 }
 
-// Widths and sizes of an image: the answer, and three numbers a slot in the lent table.
+// Widths and sizes of an image of edition one: the answer, and three numbers a slot in the lent table.
 pub fn compute_sizes(image: &[u8], sizes: &mut [u64]) -> Sizing
-    ensures { λ r. ⌜ Answered (now (image .entry)) (now (sizes .entry)) (now (sizes .exit)) r ⌝ }
+    ensures { λ r. ⌜ Answered Edition.One (now (image .entry)) (now (sizes .entry)) (now (sizes .exit)) r ⌝ }
 {
     let mut starts = [0usize; 512];
-    match reader::read_into(image, &mut starts) {
+    match reader::read_into(image, Edition::One, &mut starts) {
         Reading::Accepted(frame) => {
             let count = frame.slots as usize;
             size_slots(image, &starts[0..count], frame, sizes)

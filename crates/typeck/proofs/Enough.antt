@@ -1,6 +1,6 @@
 -- In an image that is read the limits of findings are enough. Assumes nothing.
 use Prim.Native.Nat.{ℕ, zero, suc, _/_, _%_, _≤_, _<_}
-use mathlib.Core.Path.{_≡_, refl, sym, ap, _∙_}
+use mathlib.Core.Path.{_≡_, refl, sym, ap, subst, _∙_}
 use mathlib.Core.List.{List, [], _∷_}
 use mathlib.Core.Bool.{Bool, true, false, cond, _&&_}
 use mathlib.Core.Logic.{by-cases}
@@ -18,7 +18,7 @@ use Rattle.image.specs.declared.Frame.{Frame}
 use Rattle.reader.specs.Reading.{answered, readingOf, schemaOf}
 use Rattle.reader.specs.Promise.{Promise}
 use Rattle.reader.specs.declared.Reading.{Reading}
-use Rattle.reader.proofs.Judging.{reading-is, promised, seen}
+use Rattle.reader.proofs.Judging.{judged-said}
 use Rattle.findings.specs.Meaning.{argumentOf, leafMeant, substitute, applied, meaningOf}
 use Rattle.findings.specs.Endless.{counted, entered, left, walkName, walkSlot}
 use Rattle.findings.specs.declared.RecursionState.{RecursionState}
@@ -30,20 +30,22 @@ use Rattle.meanings.proofs.Heights.{within}
 use Rattle.meanings.proofs.Ended.{alias-ranked}
 use Rattle.meanings.proofs.Enough.{enough}
 use Rattle.typeck.specs.Enough.{LimitsEnough}
+use Rattle.slot.specs.declared.Edition.{Edition}
 
 -- an image that is read keeps the promise, for a table of its starts
-kept : (s : List ℕ) (f : Frame) → readingOf s ≡ Reading.Accepted f → (starts : List ℕ) × Promise s starts f
+kept : (ed : Edition) (s : List ℕ) (f : Frame) → readingOf ed s ≡ Reading.Accepted f → (f .edition ≡ ed) × (starts : List ℕ) × Promise s starts f
 unfolding readingOf
-kept s f e = go (imageOf s) refl
+kept ed s f e = go (imageOf ed s) refl
   where
     blank : List ℕ
     blank = replicate 512 0
 
-    go : (o : Outcome Image) → imageOf s ≡ o → (starts : List ℕ) × Promise s starts f
+    go : (o : Outcome Image) → imageOf ed s ≡ o → (f .edition ≡ ed) × (starts : List ℕ) × Promise s starts f
     go (done i n) x =
-        let l = sets blank 0 (startsOf (readableSlots s)) in
-        let v = seen s blank l (frameIn i) (omega (arith, length-replicate {A = ℕ} 512 0)) (sym (ap framed x)) refl .1 in
-        (take (frameIn i .slots) l, promised s _ (frameIn i) v f (reading-is s _ (frameIn i) v ∙ e))
+        let l = sets blank 0 (startsOf (readableSlots ed s)) in
+        let a = judged-said ed s blank l (frameIn i) (omega (arith, length-replicate {A = ℕ} 512 0)) (sym (ap framed x)) refl _ refl in
+        let q = a .answer ∙ e in
+        (a .edition f q, take (f .slots) l, a .promise f q)
     go (refused r p) x = let q : Reading.Refused r p ≡ Reading.Accepted f = sym (ap answered x) ∙ e in let z : _≡_ {A = ℕ} 0 1 = cc in absurd (omega arith)
 
 -- ## Aliases
@@ -56,10 +58,10 @@ named-same : {i j : ℕ} → leaf (named i) ≡ leaf (named j) → i ≡ j
 named-same e = cc
 
 aliases-enough : (s starts : List ℕ) (f : Frame) → Promise s starts f → (chain : ℕ) → 512 ≤ chain → (n : ℕ) (t : Tree)
-    → applied (schemaOf s) chain n t ≡ applied (schemaOf s) 512 n t
+    → applied (schemaOf (f .edition) s) chain n t ≡ applied (schemaOf (f .edition) s) 512 n t
 unfolding meaningOf substitute leafMeant argumentOf
 aliases-enough s starts f p chain h n t =
-    let r = within (schemaOf s) (alias-ranked s starts f p) (ofT n) in
+    let r = within (schemaOf (f .edition) s) (alias-ranked s starts f p) (ofT n) in
     named-same (enough s starts f p (0 ∷ []) (t ∷ []) (ofT n) chain (omega arith))
 
 -- ## Walks
@@ -116,8 +118,9 @@ module _ (S : Schema) (few : length (S .slots) ≤ 512) where
   walks-enough k h i d st p v =
       alike 513 k 513 h (omega arith) i d st (record { path = p; visited = v }) (omega (arith, most-unvisited (st .visited)))
 
-pub limits-enough : (s : List ℕ) (f : Frame) → readingOf s ≡ Reading.Accepted f → LimitsEnough (schemaOf s)
-limits-enough s f e =
-    let (starts, promise) = kept s f e in
-    let few : length (schemaOf s .slots) ≤ 512 = omega (arith, promise .count, promise .few) in
-    record { aliases = aliases-enough s starts f promise; walks = walks-enough (schemaOf s) few }
+pub limits-enough : (ed : Edition) (s : List ℕ) (f : Frame) → readingOf ed s ≡ Reading.Accepted f → LimitsEnough (schemaOf ed s)
+limits-enough ed s f e =
+    let (same, starts, promise) = kept ed s f e in
+    let few : length (schemaOf (f .edition) s .slots) ≤ 512 = omega (arith, promise .count, promise .few) in
+    subst (λ (x : Edition). LimitsEnough (schemaOf x s)) same
+    record { aliases = aliases-enough s starts f promise; walks = walks-enough (schemaOf (f .edition) s) few }

@@ -30,72 +30,74 @@ use Rattle.typeck.specs.Check.{judged, verdictIn, verdictOf, onAccepted,
 use Rattle.typeck.specs.Searching.{Found}
 use Rattle.typeck.specs.declared.Verdict.{Verdict}
 use Rattle.typeck.proofs.Enough.{limits-enough}
+use Rattle.slot.specs.declared.Edition.{Edition}
 
 pub noted-length : (t : List ℕ) (n : ℕ) (l : List Finding) → t ≡ noted n l → length t ≡ n
 noted-length t n l e = ap length e ∙ fitted-length n (rowsOf l)
 
 -- the findings of both checks, one after the other
-pub both-noted : (s before t u : List ℕ) (n k : ℕ) → endless.Checked s before t n → Adds (2 ^ 25) t u n k (conformanceOf (schemaOf s) 0 (schemaOf s .slots))
-    → (k ≡ length (findingsOf (schemaOf s))) × (u ≡ noted (length before) (findingsOf (schemaOf s)))
+pub both-noted : (S : Schema) (before t u : List ℕ) (n k : ℕ) → endless.Checked S before t n → Adds (2 ^ 25) t u n k (conformanceOf S 0 (S .slots))
+    → (k ≡ length (findingsOf S)) × (u ≡ noted (length before) (findingsOf S))
 unfolding findingsOf
-both-noted s before t u n k c a =
-    let S = schemaOf s in
+both-noted S before t u n k c a =
     let E = endlessOf S (S .declared) in
     let C = conformanceOf S 0 (S .slots) in
     (a .answer ∙ ap (λ (m : ℕ). m + length C) (c .count) ∙ sym (length-append E C), adds-noted a (length before) E (sym (c .count)) (c .table))
 
-module _ (s sizes findings : List ℕ) where
+module _ (S : Schema) (sizes findings : List ℕ) where
   -- refusal 12
-  pub no-places : (count : ℕ) (a b t : List ℕ) → (count ≡ length (findingsOf (schemaOf s))) × (t ≡ noted (length findings) (findingsOf (schemaOf s)))
-      → length t < 6 * count → a ≡ fitted (length sizes) [] → b ≡ fitted (length t) [] → Found s sizes a findings b (Verdict.Refused 12 0)
+  pub no-places : (count : ℕ) (a b t : List ℕ) → (count ≡ length (findingsOf S)) × (t ≡ noted (length findings) (findingsOf S))
+      → length t < 6 * count → a ≡ fitted (length sizes) [] → b ≡ fitted (length t) [] → Found S sizes a findings b (Verdict.Refused 12 0)
   unfolding judged
   no-places count a b t n h x y =
       let e = n .0 in
       let l = noted-length t (length findings) _ (n .1) in
       record {
-        answer = simp (lt-ltb (length findings) (6 * length (findingsOf (schemaOf s))) (omega arith));
+        answer = simp (lt-ltb (length findings) (6 * length (findingsOf S)) (omega arith));
         sizeTable = x;
         findingTable = y ∙ ap (λ (k : ℕ). fitted k []) l;
       }
 
-  pub all-found : (count : ℕ) (t : List ℕ) → (count ≡ length (findingsOf (schemaOf s))) × (t ≡ noted (length findings) (findingsOf (schemaOf s)))
-      → 6 * count ≤ length t → Found s sizes sizes findings t (Verdict.Accepted count)
+  pub all-found : (count : ℕ) (t : List ℕ) → (count ≡ length (findingsOf S)) × (t ≡ noted (length findings) (findingsOf S))
+      → 6 * count ≤ length t → Found S sizes sizes findings t (Verdict.Accepted count)
   unfolding judged
   all-found count t n h =
       let e = n .0 in
       let l = noted-length t (length findings) _ (n .1) in
       record {
-        answer = simp (le-ltb (length findings) (6 * length (findingsOf (schemaOf s))) (omega arith)) (ap Verdict.Accepted e);
+        answer = simp (le-ltb (length findings) (6 * length (findingsOf S)) (omega arith)) (ap Verdict.Accepted e);
         sizeTable = refl;
         findingTable = n .1;
       }
 
   -- neither check has anything to find
-  pub nothing-found : endlessOf (schemaOf s) (schemaOf s .declared) ≡ [] → conformanceOf (schemaOf s) 0 (schemaOf s .slots) ≡ [] → findings ≡ fitted (length findings) []
-      → Found s sizes sizes findings findings (Verdict.Accepted 0)
+  pub nothing-found : endlessOf S (S .declared) ≡ [] → conformanceOf S 0 (S .slots) ≡ [] → findings ≡ fitted (length findings) []
+      → Found S sizes sizes findings findings (Verdict.Accepted 0)
   unfolding findingsOf rowsOf
   nothing-found e f h =
-      let n : findingsOf (schemaOf s) ≡ [] = ap₂ _++_ e f in
+      let n : findingsOf S ≡ [] = ap₂ _++_ e f in
       all-found 0 findings (ap length (sym n), h ∙ ap (noted (length findings)) (sym n)) (omega arith)
 
-  -- the sizes stand, and the findings were looked for
-  pub found-said : (z : Sizing) (mid after cleared b : List ℕ) (r : Verdict) → sizing.Answered s sizes mid z → z ≡ Sizing.Accepted
-      → length cleared ≡ length findings → Found s mid after cleared b r → Answered s sizes after findings b r
-  unfolding verdictOf verdictIn sizeTable findingTable sizesOf
-  found-said z mid after cleared b r d e q f =
-      let a : r ≡ verdictOf (length sizes) (length findings) s
-      = f .answer ∙ ap (λ (n : ℕ). judged n (schemaOf s)) q ∙ ap (verdictIn (length findings) (schemaOf s)) (sym e ∙ d .answer) in
-      let n : length mid ≡ length sizes = ap length (d .table) ∙ fitted-length (length sizes) _ in
-      record {
-        answer = a;
-        sizeTable = f .sizeTable ∙ ap (λ (k : ℕ). onAccepted r k mid) n ∙ ap (onAccepted r (length sizes)) (d .table) ∙ ap (λ (v : Verdict). onAccepted v (length sizes) (sizesOf (length sizes) s)) a;
-        findingTable = f .findingTable
-            ∙ ap (λ (k : ℕ). onAccepted r k (noted k (findingsOf (schemaOf s)))) q
-            ∙ ap (λ (v : Verdict). onAccepted v (length findings) (noted (length findings) (findingsOf (schemaOf s)))) a;
-        demand = λ m h. subst (λ (t : List ℕ). Demand3 (schemaOf s) t) (sym (f .sizeTable ∙ ap (λ (v : Verdict). onAccepted v (length mid) mid) h)) (d .demand e);
-        names = d .names;
-        limits = limits-enough s;
-      }
+-- the sizes stand, and the findings were looked for
+pub found-said : (ed : Edition) (s sizes findings : List ℕ) (z : Sizing) (mid after cleared b : List ℕ) (r : Verdict) (own : Edition) → sizing.Answered ed s sizes mid z
+    → z ≡ Sizing.Accepted → length cleared ≡ length findings → own ≡ ed → Found (schemaOf own s) mid after cleared b r → Answered ed s sizes after findings b r
+unfolding verdictOf verdictIn sizeTable findingTable sizesOf
+found-said ed s sizes findings z mid after cleared b r own d e q same found =
+    let S = schemaOf ed s in
+    let f = subst (λ (x : Edition). Found (schemaOf x s) mid after cleared b r) same found in
+    let a : r ≡ verdictOf ed (length sizes) (length findings) s
+    = f .answer ∙ ap (λ (n : ℕ). judged n S) q ∙ ap (verdictIn (length findings) S) (sym e ∙ d .answer) in
+    let n : length mid ≡ length sizes = ap length (d .table) ∙ fitted-length (length sizes) _ in
+    record {
+      answer = a;
+      sizeTable = f .sizeTable ∙ ap (λ (k : ℕ). onAccepted r k mid) n ∙ ap (onAccepted r (length sizes)) (d .table) ∙ ap (λ (v : Verdict). onAccepted v (length sizes) (sizesOf ed (length sizes) s)) a;
+      findingTable = f .findingTable
+          ∙ ap (λ (k : ℕ). onAccepted r k (noted k (findingsOf S))) q
+          ∙ ap (λ (v : Verdict). onAccepted v (length findings) (noted (length findings) (findingsOf S))) a;
+      demand = λ m h. subst (λ (t : List ℕ). Demand3 S t) (sym (f .sizeTable ∙ ap (λ (v : Verdict). onAccepted v (length mid) mid) h)) (d .demand e);
+      names = d .names;
+      limits = limits-enough ed s;
+    }
 
 verdict-rows : (S : Schema) (c : Checked) (n i : ℕ) → verdict c ≡ Sizing.Refused n i → rowsIn S c ≡ []
 verdict-rows S (check.accepted st) n i e = let z : _≡_ {A = ℕ} 0 1 = cc in absurd (omega arith)
@@ -115,19 +117,19 @@ not-accepted : {n p m : ℕ} → Verdict.Refused n p ≡ Verdict.Accepted m → 
 not-accepted e = let z : _≡_ {A = ℕ} 0 1 = cc in omega arith
 
 -- a refusal that comes before findings
-pub refused-said : (s sizes findings : List ℕ) (z : Sizing) (n i : ℕ) (after b : List ℕ) → sizing.Answered s sizes after z → z ≡ Sizing.Refused n i
-    → b ≡ fitted (length findings) [] → Answered s sizes after findings b (Verdict.Refused n i)
+pub refused-said : (ed : Edition) (s sizes findings : List ℕ) (z : Sizing) (n i : ℕ) (after b : List ℕ) → sizing.Answered ed s sizes after z → z ≡ Sizing.Refused n i
+    → b ≡ fitted (length findings) [] → Answered ed s sizes after findings b (Verdict.Refused n i)
 unfolding verdictOf verdictIn sizeTable findingTable sizingOf sizesOf
-refused-said s sizes findings z n i after b d e q =
+refused-said ed s sizes findings z n i after b d e q =
     let k = sym (d .answer) ∙ e in
-    let a : Verdict.Refused n i ≡ verdictOf (length sizes) (length findings) s = ap (verdictIn (length findings) (schemaOf s)) (sym k) in
+    let a : Verdict.Refused n i ≡ verdictOf ed (length sizes) (length findings) s = ap (verdictIn (length findings) (schemaOf ed s)) (sym k) in
     record {
       answer = a;
-      sizeTable = d .table ∙ ap (fitted (length sizes)) (no-rows (length sizes) (schemaOf s) (readingOf s) n i k) ∙ ap (λ (v : Verdict). onAccepted v (length sizes) (sizesOf (length sizes) s)) a;
-      findingTable = q ∙ ap (λ (v : Verdict). onAccepted v (length findings) (noted (length findings) (findingsOf (schemaOf s)))) a;
+      sizeTable = d .table ∙ ap (fitted (length sizes)) (no-rows (length sizes) (schemaOf ed s) (readingOf ed s) n i k) ∙ ap (λ (v : Verdict). onAccepted v (length sizes) (sizesOf ed (length sizes) s)) a;
+      findingTable = q ∙ ap (λ (v : Verdict). onAccepted v (length findings) (noted (length findings) (findingsOf (schemaOf ed s)))) a;
       demand = λ m h. absurd (not-accepted h);
       names = d .names;
-      limits = limits-enough s;
+      limits = limits-enough ed s;
     }
 
 -- a table that was cleared

@@ -1,4 +1,4 @@
--- The whole check: from an image and the places of the two tables to the answer and what the tables hold afterwards.
+-- The whole check: from an image, its edition and the places of the two tables to the answer and what the tables hold afterwards.
 use Prim.Native.Nat.{ℕ, _*_}
 use mathlib.Core.Path.{_≡_}
 use mathlib.Core.List.{List, []}
@@ -16,6 +16,7 @@ use Rattle.findings.specs.Finding.{noted}
 use Rattle.findings.specs.Findings.{findingsOf}
 use Rattle.typeck.specs.Enough.{LimitsEnough}
 use Rattle.typeck.specs.declared.Verdict.{Verdict}
+use Rattle.slot.specs.declared.Edition.{Edition}
 
 -- document 01's number of an answer, 0 for acceptance; and its value: how many findings, or the refusal's place
 abbrev pub numberOf : Verdict → ℕ
@@ -36,8 +37,8 @@ verdictIn q S (Sizing.Refused r p) = Verdict.Refused r p
 verdictIn q S Sizing.Accepted = judged q S
 
 -- the answer
-unfoldable pub verdictOf : (sizePlaces findingPlaces : ℕ) → List ℕ → Verdict
-verdictOf p q s = verdictIn q (schemaOf s) (sizingOf p s)
+unfoldable pub verdictOf : Edition → (sizePlaces findingPlaces : ℕ) → List ℕ → Verdict
+verdictOf ed p q s = verdictIn q (schemaOf ed s) (sizingOf ed p s)
 
 -- a table on acceptance, and zeros on a refusal
 abbrev pub onAccepted : Verdict → (places : ℕ) → List ℕ → List ℕ
@@ -45,18 +46,18 @@ onAccepted (Verdict.Accepted n) places t = t
 onAccepted (Verdict.Refused r i) places t = fitted places []
 
 -- three numbers a slot, and zeros after them
-unfoldable pub sizeTable : (sizePlaces findingPlaces : ℕ) → List ℕ → List ℕ
-sizeTable p q s = onAccepted (verdictOf p q s) p (sizesOf p s)
+unfoldable pub sizeTable : Edition → (sizePlaces findingPlaces : ℕ) → List ℕ → List ℕ
+sizeTable ed p q s = onAccepted (verdictOf ed p q s) p (sizesOf ed p s)
 
 -- six numbers a finding, and zeros after them
-unfoldable pub findingTable : (sizePlaces findingPlaces : ℕ) → List ℕ → List ℕ
-findingTable p q s = onAccepted (verdictOf p q s) q (noted q (findingsOf (schemaOf s)))
+unfoldable pub findingTable : Edition → (sizePlaces findingPlaces : ℕ) → List ℕ → List ℕ
+findingTable ed p q s = onAccepted (verdictOf ed p q s) q (noted q (findingsOf (schemaOf ed s)))
 
 -- what is said of the answer and of both tables that the caller holds afterwards; on acceptance demand 3 holds of the sizes
-pub record Answered (s sizes sizesAfter findings findingsAfter : List ℕ) (r : Verdict) : Type 0 where
-  pub answer : r ≡ verdictOf (length sizes) (length findings) s
-  pub sizeTable : sizesAfter ≡ sizeTable (length sizes) (length findings) s
-  pub findingTable : findingsAfter ≡ findingTable (length sizes) (length findings) s
-  pub demand : (n : ℕ) → r ≡ Verdict.Accepted n → Demand3 (schemaOf s) sizesAfter
-  pub names : WhenRead s NamesObey
-  pub limits : WhenRead s LimitsEnough
+pub record Answered (ed : Edition) (s sizes sizesAfter findings findingsAfter : List ℕ) (r : Verdict) : Type 0 where
+  pub answer : r ≡ verdictOf ed (length sizes) (length findings) s
+  pub sizeTable : sizesAfter ≡ sizeTable ed (length sizes) (length findings) s
+  pub findingTable : findingsAfter ≡ findingTable ed (length sizes) (length findings) s
+  pub demand : (n : ℕ) → r ≡ Verdict.Accepted n → Demand3 (schemaOf ed s) sizesAfter
+  pub names : WhenRead ed s NamesObey
+  pub limits : WhenRead ed s LimitsEnough

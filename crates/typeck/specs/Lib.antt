@@ -2,3 +2,4 @@ pub mod Enough
 pub mod Check
 pub mod Searching
 pub mod Bench
+pub mod Editions

@@ -1,6 +1,7 @@
 // The check of a schema image: widths, sizes and findings, or a refusal.
 use image::Frame;
 use reader::Reading;
+use slot::Edition;
 use turns::Sizing;
 ghost use Rattle.reader.specs.Reading.{schemaOf};
 ghost use Rattle.reader.specs.Promise.{Promise};
@@ -31,8 +32,8 @@ fn count_endless(
     ordered: bool,
     findings: &mut [u32],
 ) -> u64
-    requires { ⌜ Ready (now image) (now starts) frame (now findings) × (ordered ≡ true → isOrdered (schemaOf (now image)) ≡ true) ⌝ }
-    ensures { λ r. ⌜ Checked (now (image .entry)) (now (findings .entry)) (now (findings .exit)) r ⌝ }
+    requires { ⌜ Ready (now image) (now starts) frame (now findings) × (ordered ≡ true → isOrdered (schemaOf (frame .edition) (now image)) ≡ true) ⌝ }
+    ensures { λ r. ⌜ Checked (schemaOf (frame .edition) (now (image .entry))) (now (findings .entry)) (now (findings .exit)) r ⌝ }
 {
     if ordered {
         return 0;
@@ -49,8 +50,8 @@ fn count_lacking(
     findings: &mut [u32],
     count: u64,
 ) -> u64
-    requires { ⌜ Promise (now image) (now starts) frame × (impls ≡ false → hasImpl (schemaOf (now image) .slots) ≡ false) × (count ≤ 2 ^ 27) ⌝ }
-    ensures { λ r. ⌜ Adds (2 ^ 25) (now (findings .entry)) (now (findings .exit)) count r (conformanceOf (schemaOf (now (image .entry))) 0 (schemaOf (now (image .entry)) .slots)) ⌝ }
+    requires { ⌜ Promise (now image) (now starts) frame × (impls ≡ false → hasImpl (schemaOf (frame .edition) (now image) .slots) ≡ false) × (count ≤ 2 ^ 27) ⌝ }
+    ensures { λ r. ⌜ Adds (2 ^ 25) (now (findings .entry)) (now (findings .exit)) count r (conformanceOf (schemaOf (frame .edition) (now (image .entry))) 0 (schemaOf (frame .edition) (now (image .entry)) .slots)) ⌝ }
 {
     if impls {
         return conformance::check_impl_conformance(image, starts, frame, findings, count);
@@ -69,7 +70,7 @@ fn search(
     findings: &mut [u32],
 ) -> Verdict
     requires { ⌜ Searchable (now image) (now starts) frame ordered impls (now findings) ⌝ }
-    ensures { λ r. ⌜ Found (now (image .entry)) (now (sizes .entry)) (now (sizes .exit)) (now (findings .entry)) (now (findings .exit)) r ⌝ }
+    ensures { λ r. ⌜ Found (schemaOf (frame .edition) (now (image .entry))) (now (sizes .entry)) (now (sizes .exit)) (now (findings .entry)) (now (findings .exit)) r ⌝ }
 {
     let endless = count_endless(image, starts, frame, ordered, findings);
     let count = count_lacking(image, starts, frame, impls, findings, endless);
@@ -90,7 +91,7 @@ fn find(
     findings: &mut [u32],
 ) -> Verdict
     requires { ⌜ Promise (now image) (now starts) frame × (now findings ≡ fitted (length (now findings)) []) ⌝ }
-    ensures { λ r. ⌜ Found (now (image .entry)) (now (sizes .entry)) (now (sizes .exit)) (now (findings .entry)) (now (findings .exit)) r ⌝ }
+    ensures { λ r. ⌜ Found (schemaOf (frame .edition) (now (image .entry))) (now (sizes .entry)) (now (sizes .exit)) (now (findings .entry)) (now (findings .exit)) r ⌝ }
 {
     let impls = conformance::has_impls(image, starts, frame);
     if order::is_ordered(image, starts, frame) {
@@ -104,12 +105,12 @@ fn find(
 
 // Checks an image. The size table gets three numbers a slot, the findings table six a finding, and zeros after them; on a
 // refusal both are zero.
-pub fn check(image: &[u8], sizes: &mut [u64], findings: &mut [u32]) -> Verdict
-    ensures { λ r. ⌜ Answered (now (image .entry)) (now (sizes .entry)) (now (sizes .exit)) (now (findings .entry)) (now (findings .exit)) r ⌝ }
+fn check_edition(image: &[u8], edition: Edition, sizes: &mut [u64], findings: &mut [u32]) -> Verdict
+    ensures { λ r. ⌜ Answered edition (now (image .entry)) (now (sizes .entry)) (now (sizes .exit)) (now (findings .entry)) (now (findings .exit)) r ⌝ }
 {
     table::clear_findings(findings);
     let mut starts = [0usize; 512];
-    match reader::read_into(image, &mut starts) {
+    match reader::read_into(image, edition, &mut starts) {
         Reading::Accepted(frame) => {
             let count = frame.slots as usize;
             let slots = &starts[0..count];
@@ -123,4 +124,18 @@ pub fn check(image: &[u8], sizes: &mut [u64], findings: &mut [u32]) -> Verdict
             Verdict::Refused(number, place as u64)
         }
     }
+}
+
+// Checks an image of edition one.
+pub fn check(image: &[u8], sizes: &mut [u64], findings: &mut [u32]) -> Verdict
+    ensures { λ r. ⌜ Answered Edition.One (now (image .entry)) (now (sizes .entry)) (now (sizes .exit)) (now (findings .entry)) (now (findings .exit)) r ⌝ }
+{
+    check_edition(image, Edition::One, sizes, findings)
+}
+
+// Checks an image of edition two.
+pub fn check_two(image: &[u8], sizes: &mut [u64], findings: &mut [u32]) -> Verdict
+    ensures { λ r. ⌜ Answered Edition.Two (now (image .entry)) (now (sizes .entry)) (now (sizes .exit)) (now (findings .entry)) (now (findings .exit)) r ⌝ }
+{
+    check_edition(image, Edition::Two, sizes, findings)
 }

@@ -4,7 +4,9 @@ use mathlib.Core.Path.{_≡_}
 use mathlib.Core.List.{List}
 use lib.ListN.{length}
 use Rattle.table.specs.Fitted.{fitted}
-use Rattle.reader.specs.Reading.{startsTable, schemaOf}
+use Rattle.slot.specs.declared.Edition.{Edition}
+use Rattle.slot.specs.declared.Edition.the-variants.{One}
+use Rattle.reader.specs.Reading.{readingOf, startsTable, schemaOf}
 use Rattle.reader.specs.declared.Reading.{Reading}
 use Rattle.sizes.specs.Names.{NamesObey}
 use Rattle.sizes.specs.Demand.{Demand3}
@@ -33,23 +35,29 @@ sizingValue Sizing.Accepted = 0
 sizingValue (Sizing.Refused r p) = p
 
 -- where the slots start, in a table of so many places
-abbrev pub startsIn : (places : ℕ) → List ℕ → List ℕ
-startsIn places s = fitted places (startsTable s)
+abbrev pub startsIn : Edition → (places : ℕ) → List ℕ → List ℕ
+startsIn ed places s = fitted places (startsTable ed s)
 
--- what the sizes alone say in two numbers, and of their table; where the number is 0, demand 3 holds of it
+-- what reading says in two numbers, and of the table of starts
+pub record ReadTold (ed : Edition) (s starts startsAfter : List ℕ) (number value : ℕ) : Type 0 where
+  pub numberIs : number ≡ numberOf (readingOf ed s)
+  pub valueIs : value ≡ valueOf (readingOf ed s)
+  pub startsAre : startsAfter ≡ startsIn ed (length starts) s
+
+-- what the sizes alone say in two numbers, of an image of edition one, and of their table; where the number is 0, demand 3 holds of it
 pub record SizesTold (s sizes sizesAfter : List ℕ) (number value : ℕ) : Type 0 where
-  pub numberIs : number ≡ sizingNumber (sizingOf (length sizes) s)
-  pub valueIs : value ≡ sizingValue (sizingOf (length sizes) s)
-  pub sizesAre : sizesAfter ≡ sizesOf (length sizes) s
-  pub demand : sizingOf (length sizes) s ≡ Sizing.Accepted → Demand3 (schemaOf s) sizesAfter
-  pub names : WhenRead s NamesObey
+  pub numberIs : number ≡ sizingNumber (sizingOf One (length sizes) s)
+  pub valueIs : value ≡ sizingValue (sizingOf One (length sizes) s)
+  pub sizesAre : sizesAfter ≡ sizesOf One (length sizes) s
+  pub demand : sizingOf One (length sizes) s ≡ Sizing.Accepted → Demand3 (schemaOf One s) sizesAfter
+  pub names : WhenRead One s NamesObey
 
 -- what the whole check says in two numbers, and of both tables; where the number is 0, demand 3 holds of the size table
-pub record Told (s sizes sizesAfter findings findingsAfter : List ℕ) (number value : ℕ) : Type 0 where
-  pub numberIs : number ≡ check.numberOf (verdictOf (length sizes) (length findings) s)
-  pub valueIs : value ≡ check.valueOf (verdictOf (length sizes) (length findings) s)
-  pub sizesAre : sizesAfter ≡ sizeTable (length sizes) (length findings) s
-  pub findingsAre : findingsAfter ≡ findingTable (length sizes) (length findings) s
-  pub demand : (n : ℕ) → verdictOf (length sizes) (length findings) s ≡ Verdict.Accepted n → Demand3 (schemaOf s) sizesAfter
-  pub names : WhenRead s NamesObey
-  pub limits : WhenRead s LimitsEnough
+pub record Told (ed : Edition) (s sizes sizesAfter findings findingsAfter : List ℕ) (number value : ℕ) : Type 0 where
+  pub numberIs : number ≡ check.numberOf (verdictOf ed (length sizes) (length findings) s)
+  pub valueIs : value ≡ check.valueOf (verdictOf ed (length sizes) (length findings) s)
+  pub sizesAre : sizesAfter ≡ sizeTable ed (length sizes) (length findings) s
+  pub findingsAre : findingsAfter ≡ findingTable ed (length sizes) (length findings) s
+  pub demand : (n : ℕ) → verdictOf ed (length sizes) (length findings) s ≡ Verdict.Accepted n → Demand3 (schemaOf ed s) sizesAfter
+  pub names : WhenRead ed s NamesObey
+  pub limits : WhenRead ed s LimitsEnough

@@ -1,12 +1,14 @@
 // What C and Rust programs link.
+use reader::Read;
 use reader::Reading;
+use slot::Edition;
 use turns::Sizing;
 use typeck::Verdict;
 ghost use mathlib.Core.Path.{_≡_};
 ghost use lib.ListN.{length, getD};
-ghost use Rattle.reader.specs.Reading.{readingOf};
 ghost use Rattle.table.specs.Fitted.{fitted};
-ghost use Rattle.vexil.specs.Answer.{numberOf, valueOf, startsIn, SizesTold, Told};
+ghost use Rattle.typeck.specs.Check as check;
+ghost use Rattle.vexil.specs.Answer.{numberOf, valueOf, ReadTold, SizesTold, Told};
 
 // `number` is 0 for an accepted image, and `value` then counts its slots or its findings; else they are a refusal's number
 // and place.
@@ -39,12 +41,10 @@ fn fit(table: &[usize], into: &mut [usize])
     }
 }
 
-// Reads an image. The table gets where each slot starts, as far as it reaches, and zeros after.
-#[no_mangle]
-pub extern "C" fn vexil_read(image: &[u8], starts: &mut [usize]) -> Answer
-    ensures { λ r. ⌜ (r .number ≡ numberOf (readingOf (now (image .entry)))) × (r .value ≡ valueOf (readingOf (now (image .entry)))) × (now (starts .exit) ≡ startsIn (length (now (starts .entry))) (now (image .entry))) ⌝ }
+// The answer of reading in two numbers, and its table in one of another length.
+fn tell_read(read: Read, starts: &mut [usize]) -> Answer
+    ensures { λ r. ⌜ (r .number ≡ numberOf (read .answer)) × (r .value ≡ valueOf (read .answer)) × (now (starts .exit) ≡ fitted (length (now (starts .entry))) (read .starts)) ⌝ }
 {
-    let read = reader::read_schema(image);
     let table = read.starts;
     fit(&table, starts);
     let answer = read.answer;
@@ -54,7 +54,25 @@ pub extern "C" fn vexil_read(image: &[u8], starts: &mut [usize]) -> Answer
     }
 }
 
-// Widths and sizes of an image: three numbers a slot in the table.
+// Reads an image of edition one. The table gets where each slot starts, as far as it reaches, and zeros after.
+#[no_mangle]
+pub extern "C" fn vexil_read(image: &[u8], starts: &mut [usize]) -> Answer
+    ensures { λ r. ⌜ ReadTold Edition.One (now (image .entry)) (now (starts .entry)) (now (starts .exit)) (r .number) (r .value) ⌝ }
+{
+    let read = reader::read_schema(image);
+    tell_read(read, starts)
+}
+
+// Reads an image of edition two. The table gets where each slot starts, as far as it reaches, and zeros after.
+#[no_mangle]
+pub extern "C" fn vexil_read_two(image: &[u8], starts: &mut [usize]) -> Answer
+    ensures { λ r. ⌜ ReadTold Edition.Two (now (image .entry)) (now (starts .entry)) (now (starts .exit)) (r .number) (r .value) ⌝ }
+{
+    let read = reader::read_schema_two(image);
+    tell_read(read, starts)
+}
+
+// Widths and sizes of an image of edition one: three numbers a slot in the table.
 #[no_mangle]
 pub extern "C" fn vexil_sizes(image: &[u8], sizes: &mut [u64]) -> Answer
     ensures { λ r. ⌜ SizesTold (now (image .entry)) (now (sizes .entry)) (now (sizes .exit)) (r .number) (r .value) ⌝ }
@@ -65,13 +83,27 @@ pub extern "C" fn vexil_sizes(image: &[u8], sizes: &mut [u64]) -> Answer
     }
 }
 
-// The whole check: three numbers a slot, six a finding.
-#[no_mangle]
-pub extern "C" fn vexil_check(image: &[u8], sizes: &mut [u64], findings: &mut [u32]) -> Answer
-    ensures { λ r. ⌜ Told (now (image .entry)) (now (sizes .entry)) (now (sizes .exit)) (now (findings .entry)) (now (findings .exit)) (r .number) (r .value) ⌝ }
+fn tell_verdict(verdict: Verdict) -> Answer
+    ensures { λ r. ⌜ (r .number ≡ check.numberOf verdict) × (r .value ≡ check.valueOf verdict) ⌝ }
 {
-    match typeck::check(image, sizes, findings) {
+    match verdict {
         Verdict::Accepted(count) => answered(0, count),
         Verdict::Refused(number, place) => answered(number as u64, place),
     }
+}
+
+// The whole check of an image of edition one: three numbers a slot, six a finding.
+#[no_mangle]
+pub extern "C" fn vexil_check(image: &[u8], sizes: &mut [u64], findings: &mut [u32]) -> Answer
+    ensures { λ r. ⌜ Told Edition.One (now (image .entry)) (now (sizes .entry)) (now (sizes .exit)) (now (findings .entry)) (now (findings .exit)) (r .number) (r .value) ⌝ }
+{
+    tell_verdict(typeck::check(image, sizes, findings))
+}
+
+// The whole check of an image of edition two: three numbers a slot, six a finding.
+#[no_mangle]
+pub extern "C" fn vexil_check_two(image: &[u8], sizes: &mut [u64], findings: &mut [u32]) -> Answer
+    ensures { λ r. ⌜ Told Edition.Two (now (image .entry)) (now (sizes .entry)) (now (sizes .exit)) (now (findings .entry)) (now (findings .exit)) (r .number) (r .value) ⌝ }
+{
+    tell_verdict(typeck::check_two(image, sizes, findings))
 }

@@ -5,6 +5,7 @@ use mathlib.Core.List.{List}
 use Rattle.number.specs.Grammar.{counted, done, read}
 use Rattle.slot.specs.Field.{typeAt, expressionAt, fieldsAt}
 use Rattle.slot.specs.Slot.{Message, messageAt, Union, unionAt, Newtype, newtypeAt, Alias, aliasAt}
+use Rattle.slot.specs.declared.Edition.{Edition}
 use Rattle.view.specs.Part.{partAt}
 use Rattle.view.specs.Inside.{nameCount, fieldsPlace, variantsPlace, terminalPlace, targetPlace, insideOf, insideAt}
 use Rattle.view.specs.declared.Part.{Part}
@@ -53,11 +54,11 @@ module _ (s starts : List ℕ) (k : ℕ) where
 
     -- what a slot of each kind is made of stands there
     module _ {r : ℕ} (i : r ≡ insideAt s starts k) where
-      pub fields-inside : kind ≡ 1 → (names : ℕ) (m : Message) (end : ℕ) → read (messageAt names) s body ≡ done m end → read (fieldsAt names) s r ≡ done (m .fields) end
-      fields-inside q names m end f = at-place (fieldsAt names) s (fields-stand s names body m end f) (i ∙ sym (fields-at q refl))
+      pub fields-inside : kind ≡ 1 → (ed : Edition) (names : ℕ) (m : Message) (end : ℕ) → read (messageAt ed names) s body ≡ done m end → read (fieldsAt ed names) s r ≡ done (m .fields) end
+      fields-inside q ed names m end f = at-place (fieldsAt ed names) s (fields-stand s names body ed m end f) (i ∙ sym (fields-at q refl))
 
-      pub variants-inside : kind ≡ 4 → (names : ℕ) (u : Union) (end : ℕ) → read (unionAt names) s body ≡ done u end → read (counted (fieldsAt names)) s r ≡ done (u .variants) end
-      variants-inside q names u end f = at-place (counted (fieldsAt names)) s (variants-stand s names body u end f) (i ∙ sym (variants-at q refl))
+      pub variants-inside : kind ≡ 4 → (ed : Edition) (names : ℕ) (u : Union) (end : ℕ) → read (unionAt ed names) s body ≡ done u end → read (counted (fieldsAt ed names)) s r ≡ done (u .variants) end
+      variants-inside q ed names u end f = at-place (counted (fieldsAt ed names)) s (variants-stand s names body ed u end f) (i ∙ sym (variants-at q refl))
 
       module _ {names : ℕ} (named : nameCount s ≡ names) where
         pub terminal-inside : kind ≡ 5 → (n : Newtype) (end : ℕ) → read (newtypeAt names) s body ≡ done n end → read (typeAt names) s r ≡ done (n .terminal) end

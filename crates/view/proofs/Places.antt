@@ -8,9 +8,10 @@ use Rattle.number.specs.Answers.{next, follow}
 use Rattle.number.specs.declared.Next.{Next}
 use Rattle.number.proofs.Reading.{read-done, given, follow-on}
 use Rattle.tree.specs.Encoding.{encodingAt}
-use Rattle.slot.specs.Field.{typeAt, expressionAt, spanAt, storedAt, Field, fieldAt, fieldsAt}
+use Rattle.slot.specs.Field.{typeAt, expressionAt, spanAt, storedAt, limitAt, Field, fieldAt, fieldsAt}
 use Rattle.slot.specs.Slot.{Message, messageAt, Union, unionAt, Newtype, newtypeAt, Alias, aliasAt}
 use Rattle.slot.proofs.Whole.{field-parts}
+use Rattle.slot.specs.declared.Edition.{Edition}
 use Rattle.view.specs.Take.{placeOf}
 use Rattle.view.specs.Inside.{nameCount, fieldsPlace, variantsPlace, terminalPlace, targetPlace}
 
@@ -36,19 +37,19 @@ second g h m part same s at x end e =
     at-place h s (z .here) (ap (λ o. placeOf (next o)) (y .here)) ∙ ap (λ b. done b (z .middle)) (sym (same (y .first) (z .first)) ∙ ap part (q .0)) ∙ ap (done (part x)) (q .1)
 
 module _ (s : List ℕ) (names body : ℕ) where
-  pub fields-stand : (m : Message) (end : ℕ) → read (messageAt names) s body ≡ done m end → read (fieldsAt names) s (fieldsPlace s body) ≡ done (m .fields) end
+  pub fields-stand : (ed : Edition) (m : Message) (end : ℕ) → read (messageAt ed names) s body ≡ done m end → read (fieldsAt ed names) s (fieldsPlace s body) ≡ done (m .fields) end
   unfolding messageAt read fieldsPlace
-  fields-stand m end e =
+  fields-stand ed m end e =
       let x = read-done spanAt _ s body m end e in
       let y = read-done storedAt _ s (x .middle) m end (x .rest) in
-      let z = read-done (fieldsAt names) _ s (y .middle) m end (y .rest) in
+      let z = read-done (fieldsAt ed names) _ s (y .middle) m end (y .rest) in
       let g = given (z .rest) in
-      at-place (fieldsAt names) s (z .here) (ap placeOf (follow-on (next (read spanAt s body)) (λ n. next (read storedAt s n)) (x .middle) (ap next (x .here)) ∙ ap next (y .here)))
+      at-place (fieldsAt ed names) s (z .here) (ap placeOf (follow-on (next (read spanAt s body)) (λ n. next (read storedAt s n)) (x .middle) (ap next (x .here)) ∙ ap next (y .here)))
       ∙ ap (λ (v : Message). done (v .fields) (z .middle)) (g .0) ∙ ap (done (m .fields)) (g .1)
 
-  pub variants-stand : (u : Union) (end : ℕ) → read (unionAt names) s body ≡ done u end → read (counted (fieldsAt names)) s (variantsPlace s body) ≡ done (u .variants) end
+  pub variants-stand : (ed : Edition) (u : Union) (end : ℕ) → read (unionAt ed names) s body ≡ done u end → read (counted (fieldsAt ed names)) s (variantsPlace s body) ≡ done (u .variants) end
   unfolding unionAt variantsPlace
-  variants-stand u end e = second storedAt (counted (fieldsAt names)) (λ z vs. record { stored = z; variants = vs }) (λ v. v .variants) (λ a b. refl) s body u end e
+  variants-stand ed u end e = second storedAt (counted (fieldsAt ed names)) (λ z vs. record { stored = z; variants = vs }) (λ v. v .variants) (λ a b. refl) s body u end e
 
   -- the first of the image's numbers is how many names there are
   module _ (named : nameCount s ≡ names) where
@@ -67,10 +68,10 @@ module _ (s : List ℕ) (names body : ℕ) where
       let z = read-done (typeAt names) _ s (y .middle) n end (y .rest) in
       (y .middle, y .here ∙ ap (λ (v : Newtype). done (v .inner) (y .middle)) (given (z .rest) .0))
 
--- the type of a field, behind its name and its encoding
-pub type-stands : (s : List ℕ) (names at : ℕ) (x : Field) (end : ℕ) → read (fieldAt names) s at ≡ done x end → (a b : Next)
+-- the type of a field, behind its name and its encoding, and the limit behind it
+pub type-stands : (s : List ℕ) (ed : Edition) (names at : ℕ) (x : Field) (end : ℕ) → read (fieldAt ed names) s at ≡ done x end → (a b : Next)
     → a ≡ next (below names s at) → b ≡ follow a (λ n. next (read (encodingAt 32) s n))
-    → (k : ℕ) × (b ≡ Next.At k) × (read (typeAt names) s k ≡ done (x .type) end)
-type-stands s names at x end e a b p q =
-    let f = field-parts s names at x end e in
-    (f .typed, q ∙ follow-on a _ (f .coded) (p ∙ ap next (f .nameRead)) ∙ ap next (f .encodingRead), f .typeRead)
+    → (k : ℕ) × (b ≡ Next.At k) × (n : ℕ) × (read (typeAt names) s k ≡ done (x .type) n) × (read (limitAt ed) s n ≡ done (x .limit) end)
+type-stands s ed names at x end e a b p q =
+    let f = field-parts s ed names at x end e in
+    (f .typed, q ∙ follow-on a _ (f .coded) (p ∙ ap next (f .nameRead)) ∙ ap next (f .encodingRead), f .behind, f .typeRead, f .limitRead)

@@ -8,8 +8,9 @@ use Rattle.number.proofs.Reading.{read-done, then-done, read-number, given}
 use Rattle.number.proofs.InRange.{below-is}
 use Rattle.tree.specs.Encoding.{Encoding, default, varint, zigZag, delta, encodingFill, encodingAt}
 use Rattle.tree.proofs.Levels.{nested-deep, nested-on}
-use Rattle.slot.specs.Field.{Field, fieldAt}
+use Rattle.slot.specs.Field.{limitAt, Field, fieldAt}
 use Rattle.slot.proofs.Whole.{field-parts}
+use Rattle.slot.specs.declared.Edition.{Edition}
 use Rattle.wiresize.specs.Steps.{codedAs, Coding}
 use Rattle.wiresize.specs.declared.Coded.{Coded}
 
@@ -70,9 +71,9 @@ module _ (s : List ℕ) where
         let g = given (d .rest) in
         record { inner = d .first; reads = d .here ∙ ap (done (d .first)) (g .1); same = ap (λ (y : Encoding). codedAs y end) (sym (g .0)) }
 
-  pub code-at : (names at : ℕ) (x : Field) (end : ℕ) → (q : read (fieldAt names) s at ≡ done x end) → {p : ℕ} {r : Coded}
-      → p ≡ field-parts s names at x end q .coded → ((e : Encoding) (m : ℕ) → read (encodingAt 32) s p ≡ done e m → r ≡ codedAs e m)
-      → Coding names s x end r
-  code-at names at x end q f h =
-      let p = field-parts s names at x end q in
-      record { place = p .typed; coded = h _ _ (rw f (p .encodingRead)); reads = p .typeRead }
+  pub code-at : (ed : Edition) (names at : ℕ) (x : Field) (end : ℕ) → (q : read (fieldAt ed names) s at ≡ done x end) → {p : ℕ} {r : Coded}
+      → p ≡ field-parts s ed names at x end q .coded → ((e : Encoding) (m : ℕ) → read (encodingAt 32) s p ≡ done e m → r ≡ codedAs e m)
+      → (behind : ℕ) × Coding names s x behind r × (read (limitAt ed) s behind ≡ done (x .limit) end)
+  code-at ed names at x end q f h =
+      let p = field-parts s ed names at x end q in
+      (p .behind, record { place = p .typed; coded = h _ _ (rw f (p .encodingRead)); reads = p .typeRead }, p .limitRead)

@@ -9,6 +9,7 @@ use lib.Dec.{eqb}
 use Rattle.tree.specs.Tree.{Tree, Leaf, Wrap, leaf, wrap, fixedArray, pair, generic, primitive, subByte, semantic, named, bitsInline, qualified, optional, array, setOf, vec2, vec3, vec4, quat, mat3, mat4, mapOf, resultOf}
 use Rattle.tree.specs.declared.Sort.the-variants.{Resolved}
 use Rattle.slot.specs.Slot.{Slot, empty, message, enum, flags, union, newtype, config, alias, trait, impl}
+use Rattle.slot.specs.declared.Edition.{Edition}
 use Rattle.graph.specs.Ways.{Path, step, onto, has}
 use Rattle.image.specs.Schema.{Schema, slotOf}
 use Rattle.image.specs.declared.Frame.{Frame}
@@ -88,9 +89,9 @@ NoLoop S = (i : ℕ) → OnLoop Resolved (S .finds) (slotOf S) i → ⊥
 by-parts : (S : Schema) → NoLoop S → NewtypesEnd S
 by-parts S h i r = h i (way S (S .finds) r)
 
-pub newtypes-end : (s starts : List ℕ) (f : Frame) → Promise s starts f → NewtypesEnd (schemaOf s)
-newtypes-end s starts f p = by-parts (schemaOf s) (p .newtypes)
+pub newtypes-end : (s starts : List ℕ) (f : Frame) → Promise s starts f → NewtypesEnd (schemaOf (f .edition) s)
+newtypes-end s starts f p = by-parts (schemaOf (f .edition) s) (p .newtypes)
 
 -- names go by their rule in every image that is read
-pub names-obey : (s : List ℕ) (f : Frame) → readingOf s ≡ Reading.Accepted f → NamesObey (schemaOf s)
-names-obey s f e = fuel.names-obey (schemaOf s) (by-parts (schemaOf s) (exactly s refl .accepted .0 (f, e) .before .newtypes))
+pub names-obey : (ed : Edition) (s : List ℕ) (f : Frame) → readingOf ed s ≡ Reading.Accepted f → NamesObey (schemaOf ed s)
+names-obey ed s f e = fuel.names-obey (schemaOf ed s) (by-parts (schemaOf ed s) (exactly ed s refl .accepted .0 (f, e) .before .newtypes))

@@ -7,6 +7,9 @@ use native.Mathlib.Omega.{arith}
 use Rattle.number.specs.Grammar.{count, number, Grammar, many, counted, Outcome, done, below, read}
 use Rattle.number.proofs.Reading.{Front, front, read-done, read-number, given, counted-on}
 use Rattle.slot.specs.Field.{Field, fieldAt, fieldsAt}
+use Rattle.slot.specs.declared.Edition.{Edition}
+use Rattle.image.specs.Schema.{Schema}
+use Rattle.image.specs.declared.Frame.{Frame}
 use Rattle.reader.specs.Reading.{schemaOf}
 use Rattle.sizes.specs.declared.Size.{Size}
 use Rattle.sizes.specs.declared.Size.the-variants.{Fixed}
@@ -57,9 +60,12 @@ total-done : (R : Resolver) (total : Size) {xs : List Field} → [] ≡ xs → a
 unfolding addFields
 total-done R total e = rw (← e)
 
-module _ (s : List ℕ) (names : ℕ) (rows : List ℕ) (w : List Bool) (fieldCount first : ℕ) where
+module _ (s : List ℕ) (f : Frame) (rows : List ℕ) (w : List Bool) (fieldCount first : ℕ) where
+  abbrev pub S : Schema
+  S = schemaOf (f .edition) s
+
   abbrev pub Whole : List Field → ℕ → Type 0
-  Whole fs e = read (many fieldCount (fieldAt names)) s first ≡ done fs e
+  Whole fs e = read (many fieldCount (fieldAt (f .edition) (f .names))) s first ≡ done fs e
 
   -- the fields from `here` on, onto the running total, come to what all fields come to
   pub record FieldsLeft (left here : ℕ) (total : List ℕ) : Type 0 where
@@ -67,65 +73,65 @@ module _ (s : List ℕ) (names : ℕ) (rows : List ℕ) (w : List Bool) (fieldCo
     pub stands : total ≡ totalOf sum
     pub fields : List Field
     pub end : ℕ
-    pub reads : read (many left (fieldAt names)) s here ≡ done fields end
+    pub reads : read (many left (fieldAt (f .edition) (f .names))) s here ≡ done fields end
     pub ends : (fs : List Field) (e : ℕ) → Whole fs e → end ≡ e
-    pub totals : (fs : List Field) (e : ℕ) → Whole fs e → (st : State) → RowsHold (schemaOf s) st rows
-        → addFields (resolver s st w) sum fields ≡ fieldsSize (resolver s st w) fs
+    pub totals : (fs : List Field) (e : ℕ) → Whole fs e → (st : State) → RowsHold S st rows
+        → addFields (resolver S st w) sum fields ≡ fieldsSize (resolver S st w) fs
 
   pub fields-start : (fs : List Field) (e : ℕ) → Whole fs e → {total : List ℕ} → total ≡ totalOf (Fixed 0) → FieldsLeft fieldCount first total
   fields-start fs e q i =
-      record { sum = Fixed 0; stands = i; fields = fs; end = e; reads = q; ends = λ xs d p. same-thing q p .1; totals = λ xs d p st H. ap (fieldsSize (resolver s st w)) (same-thing q p .0) }
+      record { sum = Fixed 0; stands = i; fields = fs; end = e; reads = q; ends = λ xs d p. same-thing q p .1; totals = λ xs d p st H. ap (fieldsSize (resolver S st w)) (same-thing q p .0) }
 
   module _ {left here : ℕ} {total : List ℕ} (l : FieldsLeft left here total) where
-    pub next-field : 0 < left → Front (fieldAt names) s (left - 1) here (l .fields) (l .end)
-    next-field h = first-of (fieldAt names) s left here h (l .fields) (l .end) (l .reads)
+    pub next-field : 0 < left → Front (fieldAt (f .edition) (f .names)) s (left - 1) here (l .fields) (l .end)
+    next-field h = first-of (fieldAt (f .edition) (f .names)) s left here h (l .fields) (l .end) (l .reads)
 
-    module _ (h : 0 < left) (r : Walked) (walks : Walks (fieldAt names) fieldSize s rows w here r) where
-      worked-as : (st : State) → RowsHold (schemaOf s) st rows → r .worked ≡ fieldSize (resolver s st w) (next-field h .first)
+    module _ (h : 0 < left) (r : Walked) (walks : Walks (fieldAt (f .edition) (f .names)) fieldSize s f rows w here r) where
+      worked-as : (st : State) → RowsHold S st rows → r .worked ≡ fieldSize (resolver S st w) (next-field h .first)
       worked-as st H = walks .works .worked _ _ (next-field h .here) st H
 
       module _ {total′ : List ℕ} {step : Step} (adds : (total′ ≡ totalAfter total (sumOf total (r .worked))) × (step ≡ stepOf (sumOf total (r .worked)))) where
-        onward : {w′ : Worked} → then (r .worked) (λ z. limitedSum (added (l .sum) z)) ≡ w′ → (st : State) → RowsHold (schemaOf s) st rows
-            → addFields (resolver s st w) (l .sum) (l .fields) ≡ then w′ (λ y. addFields (resolver s st w) y (next-field h .others))
+        onward : {w′ : Worked} → then (r .worked) (λ z. limitedSum (added (l .sum) z)) ≡ w′ → (st : State) → RowsHold S st rows
+            → addFields (resolver S st w) (l .sum) (l .fields) ≡ then w′ (λ y. addFields (resolver S st w) y (next-field h .others))
         onward e st H =
-            let f = next-field h in
-            ap (addFields (resolver s st w) (l .sum)) (f .whole) ∙ total-on _ (l .sum) (f .first) (f .others) (worked-as st H) (sym e)
+            let g = next-field h in
+            ap (addFields (resolver S st w) (l .sum)) (g .whole) ∙ total-on _ (l .sum) (g .first) (g .others) (worked-as st H) (sym e)
 
         pub field-turn : step ≡ Step.On → FieldsLeft (left - 1) (r .next) total′
         unfolding then
         field-turn o =
-            let f = next-field h in
+            let g = next-field h in
             let a = stepped (l .sum) (l .stands) (r .worked) (adds .0) (adds .1) o in
             let m = then-made (r .worked) _ _ (a .1) in
-            let n = walks .next _ _ (f .here) (m .part) (m .given) in
+            let n = walks .next _ _ (g .here) (m .part) (m .given) in
             record {
               sum = a .0;
               stands = a .2;
-              fields = f .others;
+              fields = g .others;
               end = l .end;
-              reads = subst (λ (p : ℕ). read (many (left - 1) (fieldAt names)) s p ≡ done (f .others) (l .end)) (sym n) (f .rest);
+              reads = subst (λ (p : ℕ). read (many (left - 1) (fieldAt (f .edition) (f .names))) s p ≡ done (g .others) (l .end)) (sym n) (g .rest);
               ends = l .ends;
               totals = λ fs d q st H. sym (onward (a .1) st H) ∙ l .totals fs d q st H;
             }
 
-        pub field-over : {o : Operation} → step ≡ Step.Over o → (fs : List Field) (e : ℕ) → Whole fs e → (st : State) → RowsHold (schemaOf s) st rows
-            → Over o ≡ fieldsSize (resolver s st w) fs
+        pub field-over : {o : Operation} → step ≡ Step.Over o → (fs : List Field) (e : ℕ) → Whole fs e → (st : State) → RowsHold S st rows
+            → Over o ≡ fieldsSize (resolver S st w) fs
         unfolding then
         field-over o fs e q st H = sym (onward (stopped (l .sum) (l .stands) (r .worked) (adds .0) (adds .1) o) st H) ∙ l .totals fs e q st H
 
     module _ (h : left ≤ 0) (fs : List Field) (e : ℕ) (q : Whole fs e) where
       pub fields-end : here ≡ e
-      fields-end = none-left (fieldAt names) s left here h (l .fields) (l .end) (l .reads) .1 ∙ l .ends fs e q
+      fields-end = none-left (fieldAt (f .edition) (f .names)) s left here h (l .fields) (l .end) (l .reads) .1 ∙ l .ends fs e q
 
-      pub fields-sum : {z : Size} → z ≡ sizeOf total → (st : State) → RowsHold (schemaOf s) st rows → Sized z ≡ fieldsSize (resolver s st w) fs
+      pub fields-sum : {z : Size} → z ≡ sizeOf total → (st : State) → RowsHold S st rows → Sized z ≡ fieldsSize (resolver S st w) fs
       fields-sum c st H =
           ap Sized (c ∙ ap sizeOf (l .stands) ∙ size-back (l .sum))
-          ∙ sym (total-done (resolver s st w) (l .sum) (none-left (fieldAt names) s left here h (l .fields) (l .end) (l .reads) .0)) ∙ l .totals fs e q st H
+          ∙ sym (total-done (resolver S st w) (l .sum) (none-left (fieldAt (f .edition) (f .names)) s left here h (l .fields) (l .end) (l .reads) .0)) ∙ l .totals fs e q st H
 
 -- the fields behind their count
-pub fields-behind : (s : List ℕ) (names at : ℕ) {count first : ℕ} → below 65537 s at ≡ done count first → {fs : List Field} {e : ℕ}
-    → read (fieldsAt names) s at ≡ done fs e → read (many count (fieldAt names)) s first ≡ done fs e
-fields-behind s names at b q = sym (counted-on (fieldAt names) s at _ _ b) ∙ q
+pub fields-behind : (s : List ℕ) (ed : Edition) (names at : ℕ) {count first : ℕ} → below 65537 s at ≡ done count first → {fs : List Field} {e : ℕ}
+    → read (fieldsAt ed names) s at ≡ done fs e → read (many count (fieldAt ed names)) s first ≡ done fs e
+fields-behind s ed names at b q = sym (counted-on (fieldAt ed names) s at _ _ b) ∙ q
 
 -- the count is there
 pub count-read : {A : Type 0} (g : Grammar A) (s : List ℕ) (at : ℕ) {xs : List A} {e : ℕ} → read (counted g) s at ≡ done xs e

@@ -111,7 +111,7 @@ module _ (s starts : List ℕ) (f : Frame) (rows : List ℕ) (w : List Bool) (re
     (q : read (typeAt (f .names)) s at ≡ done t end) where
   -- a child may be worked out, and less is left to do there
   pub child-asked : (k n : ℕ) → OneChild (f .names) s t end k n × (at < n) × (n ≤ length s)
-      → (typeLeft s (f .names) n w < typeLeft s (f .names) at w) × Asked (typeAt (f .names)) s starts f rows w n
+      → (typeLeft s f n w < typeLeft s f at w) × Asked (typeAt (f .names)) s starts f rows w n
   child-asked k n (wrapped x u e a b c r, h, l) = (
     child-in-wrap s starts f rows w ready at n t u end end q r h l x e (λ z. b (sym a ∙ z)) (λ z. c (sym a ∙ z)),
     record { ready = ready; thing = u; end = end; reads = r },

@@ -8,6 +8,7 @@ use lib.ListN.{length, getD, set}
 use Rattle.number.specs.Grammar.{Outcome, done, refused, read}
 use Rattle.tree.specs.Tree.{Tree, Wrap, leaf, wrap, fixedArray, pair, named, bitsInline, resultOf, wrapKind, optional, array, setOf, vec2, vec3, vec4, quat, mat3, mat4}
 use Rattle.slot.specs.Field.{typeAt}
+use Rattle.image.specs.Schema.{Schema}
 use Rattle.image.specs.declared.Frame.{Frame}
 use Rattle.reader.specs.Reading.{schemaOf}
 use Rattle.sizes.specs.Sizes.{countOf}
@@ -25,11 +26,11 @@ treeOr (refused r p) = leaf (bitsInline [])
 unfoldable pub unmarked : List Bool → ℕ
 unmarked w = unmarkedBelow 512 (marked w)
 
-unfoldable pub typeLeft : (s : List ℕ) → (names at : ℕ) → List Bool → ℕ
-typeLeft s names at w = (unmarked w * 1024 + typeRank (schemaOf s) (treeOr (read (typeAt names) s at))) * 131072 + (length s - at)
+unfoldable pub typeLeft : List ℕ → Frame → (at : ℕ) → List Bool → ℕ
+typeLeft s f at w = (unmarked w * 1024 + typeRank (schemaOf (f .edition) s) (treeOr (read (typeAt (f .names)) s at))) * 131072 + (length s - at)
 
-unfoldable pub nameLeft : (s : List ℕ) → (id : ℕ) → List Bool → ℕ
-nameLeft s i w = (unmarked w * 1024 + terminalRank (schemaOf s) i) * 131072 + 131071
+unfoldable pub nameLeft : Schema → (id : ℕ) → List Bool → ℕ
+nameLeft S i w = (unmarked w * 1024 + terminalRank S i) * 131072 + 131071
 
 unfoldable pub fieldLeft : List Bool → ℕ
 fieldLeft w = (unmarked w * 1024 + 900) * 131072
@@ -42,19 +43,19 @@ unfolding fieldLeft bodyLeft
 field-in-body w = omega arith
 
 module _ (s starts : List ℕ) (f : Frame) (rows : List ℕ) (w : List Bool) (ready : Ready s starts f rows w) where
-  rank-small : (t : Tree) → typeRank (schemaOf s) t ≤ 514
-  rank-small t = let b = type-rank-bound (schemaOf s) t in let c = ready .promise .count in let d = ready .promise .few in omega arith
+  rank-small : (t : Tree) → typeRank (schemaOf (f .edition) s) t ≤ 514
+  rank-small t = let b = type-rank-bound (schemaOf (f .edition) s) t in let c = ready .promise .count in let d = ready .promise .few in omega arith
 
-  name-small : (i : ℕ) → terminalRank (schemaOf s) i ≤ 513
-  name-small i = let b = terminal-rank-bound (schemaOf s) i in let c = ready .promise .count in let d = ready .promise .few in omega arith
+  name-small : (i : ℕ) → terminalRank (schemaOf (f .edition) s) i ≤ 513
+  name-small i = let b = terminal-rank-bound (schemaOf (f .edition) s) i in let c = ready .promise .count in let d = ready .promise .few in omega arith
 
-  pub type-in-field : (at : ℕ) → typeLeft s (f .names) at w < fieldLeft w
+  pub type-in-field : (at : ℕ) → typeLeft s f at w < fieldLeft w
   unfolding typeLeft fieldLeft
   type-in-field at =
       let a = rank-small (treeOr (read (typeAt (f .names)) s at)) in let b = ready .promise .small in omega arith
 
   -- a slot that is marked now
-  pub body-in-name : (i : ℕ) → i < f .slots → getD w i false ≡ false → bodyLeft (set w i true) < nameLeft s i w
+  pub body-in-name : (i : ℕ) → i < f .slots → getD w i false ≡ false → bodyLeft (set w i true) < nameLeft (schemaOf (f .edition) s) i w
   unfolding bodyLeft nameLeft unmarked
   body-in-name i h e =
       let c = ready .marks in
@@ -64,37 +65,37 @@ module _ (s starts : List ℕ) (f : Frame) (rows : List ℕ) (w : List Bool) (re
       omega arith
 
   module _ (at : ℕ) (t : Tree) (end : ℕ) (whole : read (typeAt (f .names)) s at ≡ done t end) where
-    rank-at : typeLeft s (f .names) at w ≡ (unmarked w * 1024 + typeRank (schemaOf s) t) * 131072 + (length s - at)
+    rank-at : typeLeft s f at w ≡ (unmarked w * 1024 + typeRank (schemaOf (f .edition) s) t) * 131072 + (length s - at)
     unfolding typeLeft
     rank-at = rw whole
 
-    pub name-in-type : (i : ℕ) → t ≡ leaf (named i) → nameLeft s i w < typeLeft s (f .names) at w
+    pub name-in-type : (i : ℕ) → t ≡ leaf (named i) → nameLeft (schemaOf (f .edition) s) i w < typeLeft s f at w
     unfolding nameLeft typeParts
     name-in-type i e =
-        let a = type-rank-name (schemaOf s) (leaf (named i)) i (List·Memᴰ·head refl) in
-        let b : typeRank (schemaOf s) t ≡ typeRank (schemaOf s) (leaf (named i)) = ap (typeRank (schemaOf s)) e in
+        let a = type-rank-name (schemaOf (f .edition) s) (leaf (named i)) i (List·Memᴰ·head refl) in
+        let b : typeRank (schemaOf (f .edition) s) t ≡ typeRank (schemaOf (f .edition) s) (leaf (named i)) = ap (typeRank (schemaOf (f .edition) s)) e in
         let r = rank-at in
         omega arith
 
     -- a newtype's terminal type
-    pub terminal-in-name : (i : ℕ) → contentOf (schemaOf s) i ≡ terminal t → typeLeft s (f .names) at w < nameLeft s i w
+    pub terminal-in-name : (i : ℕ) → contentOf (schemaOf (f .edition) s) i ≡ terminal t → typeLeft s f at w < nameLeft (schemaOf (f .edition) s) i w
     unfolding nameLeft
     terminal-in-name i e =
-        let a = terminal-rank-is (schemaOf s) (newtypes-end s starts f (ready .promise)) i t e in
+        let a = terminal-rank-is (schemaOf (f .edition) s) (newtypes-end s starts f (ready .promise)) i t e in
         let b = ready .promise .small in
         let r = rank-at in
         omega arith
 
   module _ (at n : ℕ) (t u : Tree) (end e : ℕ) (whole : read (typeAt (f .names)) s at ≡ done t end) (part : read (typeAt (f .names)) s n ≡ done u e)
       (after : at < n) (within : n ≤ length s) where
-    smaller : typeRank (schemaOf s) u ≤ typeRank (schemaOf s) t → typeLeft s (f .names) n w < typeLeft s (f .names) at w
+    smaller : typeRank (schemaOf (f .edition) s) u ≤ typeRank (schemaOf (f .edition) s) t → typeLeft s f n w < typeLeft s f at w
     smaller h = let a = rank-at at t end whole in let b = rank-at n u e part in omega arith
 
-    pub child-in-wrap : (x : Wrap) → t ≡ wrap x u → (wrapKind x ≡ 5 → ⊥) → (wrapKind x ≡ 7 → ⊥) → typeLeft s (f .names) n w < typeLeft s (f .names) at w
+    pub child-in-wrap : (x : Wrap) → t ≡ wrap x u → (wrapKind x ≡ 5 → ⊥) → (wrapKind x ≡ 7 → ⊥) → typeLeft s f n w < typeLeft s f at w
     unfolding typeRank typeParts
     child-in-wrap x e′ p q = smaller (rw e′ (go x p q))
       where
-        go : (x : Wrap) → (wrapKind x ≡ 5 → ⊥) → (wrapKind x ≡ 7 → ⊥) → above (terminalRank (schemaOf s)) (typeParts u) ≤ above (terminalRank (schemaOf s)) (wrapParts (countOf x) (typeParts u))
+        go : (x : Wrap) → (wrapKind x ≡ 5 → ⊥) → (wrapKind x ≡ 7 → ⊥) → above (terminalRank (schemaOf (f .edition) s)) (typeParts u) ≤ above (terminalRank (schemaOf (f .edition) s)) (wrapParts (countOf x) (typeParts u))
         go optional p q = omega arith
         go array p q = absurd (p refl)
         go setOf p q = absurd (q refl)
@@ -105,14 +106,14 @@ module _ (s starts : List ℕ) (f : Frame) (rows : List ℕ) (w : List Bool) (re
         go mat3 p q = omega arith
         go mat4 p q = omega arith
 
-    pub element-in-array : (k : ℕ) → t ≡ fixedArray u k → typeLeft s (f .names) n w < typeLeft s (f .names) at w
+    pub element-in-array : (k : ℕ) → t ≡ fixedArray u k → typeLeft s f n w < typeLeft s f at w
     unfolding typeRank typeParts
     element-in-array k e′ = smaller (rw e′ (omega arith))
 
-    pub ok-in-result : (v : Tree) → t ≡ pair resultOf u v → typeLeft s (f .names) n w < typeLeft s (f .names) at w
+    pub ok-in-result : (v : Tree) → t ≡ pair resultOf u v → typeLeft s f n w < typeLeft s f at w
     unfolding typeRank typeParts
-    ok-in-result v e′ = smaller (rw e′ (omega (arith, above-append (terminalRank (schemaOf s)) (typeParts u) (typeParts v))))
+    ok-in-result v e′ = smaller (rw e′ (omega (arith, above-append (terminalRank (schemaOf (f .edition) s)) (typeParts u) (typeParts v))))
 
-    pub err-in-result : (v : Tree) → t ≡ pair resultOf v u → typeLeft s (f .names) n w < typeLeft s (f .names) at w
+    pub err-in-result : (v : Tree) → t ≡ pair resultOf v u → typeLeft s f n w < typeLeft s f at w
     unfolding typeRank typeParts
-    err-in-result v e′ = smaller (rw e′ (omega (arith, above-append (terminalRank (schemaOf s)) (typeParts v) (typeParts u))))
+    err-in-result v e′ = smaller (rw e′ (omega (arith, above-append (terminalRank (schemaOf (f .edition) s)) (typeParts v) (typeParts u))))

@@ -64,12 +64,12 @@ eight-times n h = let t = le-ltb limit (n * 8) (omega arith) in rw t (ap (λ (k 
 -- ## Slots that were read
 
 module _ (s starts : List ℕ) (f : Frame) (p : Promise s starts f) (i : ℕ) (h : i < f .slots) where
-  stored-few : (g : Flags) → slotOf (schemaOf s) i ≡ flags g → g .storedBytes ≤ 255
+  stored-few : (g : Flags) → slotOf (schemaOf (f .edition) s) i ≡ flags g → g .storedBytes ≤ 255
   unfolding slotBodyAt flagsAt read
   stored-few g e =
       let r = p .slots i h in
-      let q = slot-parts s (f .names) (getD starts i 0) (flags g) (r .0) (r .1 ∙ ap (λ (x : Slot). done x (r .0)) e) in
-      let m = made-of s flags flagsAt (q .body) (flags g) (r .0) (q .bodyRead) in
+      let q = slot-parts s (f .edition) (f .names) (getD starts i 0) (flags g) (r .0) (r .1 ∙ ap (λ (x : Slot). done x (r .0)) e) in
+      let m = made-of s flags (flagsAt (f .edition)) (q .body) (flags g) (r .0) (q .bodyRead) in
       let a = read-done (number value 256) _ s (q .body) (m .held) (r .0) (m .reads) in
       let b = below-is s (q .body) 256 (a .first) (a .middle) (sym (read-number value 256 s (q .body)) ∙ a .here) in
       let c = read-done _ _ s (a .middle) (m .held) (r .0) (a .rest) in
@@ -79,28 +79,28 @@ module _ (s starts : List ℕ) (f : Frame) (p : Promise s starts f) (i : ℕ) (h
       omega (arith, b .under)
 
   module _ (kind body : ℕ) (e : partAt s starts i ≡ Part.At kind body) where
-    pub is-message : kind ≡ 1 → (m : Message) × (end : ℕ) × (slotOf (schemaOf s) i ≡ message m) × (read (messageAt (f .names)) s body ≡ done m end)
+    pub is-message : kind ≡ 1 → (m : Message) × (end : ℕ) × (slotOf (schemaOf (f .edition) s) i ≡ message m) × (read (messageAt (f .edition) (f .names)) s body ≡ done m end)
     unfolding slotBodyAt
     is-message z =
         let b = part-behind s starts f p i h kind body e in
-        let m = made-of s message (messageAt (f .names)) body _ (b .end) (body-at b _ z) in
+        let m = made-of s message (messageAt (f .edition) (f .names)) body _ (b .end) (body-at b _ z) in
         (m .held, b .end, m .slotIs, m .reads)
 
-    pub is-union : kind ≡ 4 → (u : Union) × (end : ℕ) × (slotOf (schemaOf s) i ≡ union u) × (read (unionAt (f .names)) s body ≡ done u end)
+    pub is-union : kind ≡ 4 → (u : Union) × (end : ℕ) × (slotOf (schemaOf (f .edition) s) i ≡ union u) × (read (unionAt (f .edition) (f .names)) s body ≡ done u end)
     unfolding slotBodyAt
     is-union z =
         let b = part-behind s starts f p i h kind body e in
-        let m = made-of s union (unionAt (f .names)) body _ (b .end) (body-at b _ z) in
+        let m = made-of s union (unionAt (f .edition) (f .names)) body _ (b .end) (body-at b _ z) in
         (m .held, b .end, m .slotIs, m .reads)
 
-    pub is-newtype : kind ≡ 5 → (n : Newtype) × (end : ℕ) × (slotOf (schemaOf s) i ≡ newtype n) × (read (newtypeAt (f .names)) s body ≡ done n end)
+    pub is-newtype : kind ≡ 5 → (n : Newtype) × (end : ℕ) × (slotOf (schemaOf (f .edition) s) i ≡ newtype n) × (read (newtypeAt (f .names)) s body ≡ done n end)
     unfolding slotBodyAt
     is-newtype z =
         let b = part-behind s starts f p i h kind body e in
         let m = made-of s newtype (newtypeAt (f .names)) body _ (b .end) (body-at b _ z) in
         (m .held, b .end, m .slotIs, m .reads)
 
-    pub kind-is : slotKind (slotOf (schemaOf s) i) ≡ kind
+    pub kind-is : slotKind (slotOf (schemaOf (f .edition) s) i) ≡ kind
     kind-is = part-behind s starts f p i h kind body e .kindIs
 
 -- ## Rows
@@ -169,22 +169,22 @@ row-other S st i b n (impl m) u v t q = refl
 
 -- ## A name
 
-module _ (s starts : List ℕ) (f : Frame) (rows : List ℕ) (w : List Bool) (ready : Ready s starts f rows w) (st : State) (H : RowsHold (schemaOf s) st rows) (i : ℕ) where
-  obeys : resolver s st w i ≡ nameRule (schemaOf s) st (nameSize (schemaOf s) st) (marked w) i
-  obeys = name-obeys (schemaOf s) st (newtypes-end s starts f (ready .promise)) (marked w) i
+module _ (s starts : List ℕ) (f : Frame) (rows : List ℕ) (w : List Bool) (ready : Ready s starts f rows w) (st : State) (H : RowsHold (schemaOf (f .edition) s) st rows) (i : ℕ) where
+  obeys : resolver (schemaOf (f .edition) s) st w i ≡ nameRule (schemaOf (f .edition) s) st (nameSize (schemaOf (f .edition) s) st) (marked w) i
+  obeys = name-obeys (schemaOf (f .edition) s) st (newtypes-end s starts f (ready .promise)) (marked w) i
 
-  pub name-missing : f .slots ≤ i → Sized (Open 0) ≡ resolver s st w i
+  pub name-missing : f .slots ≤ i → Sized (Open 0) ≡ resolver (schemaOf (f .edition) s) st w i
   unfolding nameRule contentOf contentIn contentSize slotOf
   name-missing h =
       let c = ready .promise .count in
-      let e : contentOf (schemaOf s) i ≡ anything = ap (contentIn (schemaOf s) i) (List·getD-eq-default (schemaOf s .slots) empty (omega arith)) in
+      let e : contentOf (schemaOf (f .edition) s) i ≡ anything = ap (contentIn (schemaOf (f .edition) s) i) (List·getD-eq-default (schemaOf (f .edition) s .slots) empty (omega arith)) in
       sym (obeys ∙ rw e (go (marked w i)))
     where
       go : (b : Bool) → cond b (Sized (Open 0)) (Sized (Open 0)) ≡ Sized (Open 0)
       go true = refl
       go false = refl
 
-  pub name-marked : getD w i false ≡ true → Sized (Open 0) ≡ resolver s st w i
+  pub name-marked : getD w i false ≡ true → Sized (Open 0) ≡ resolver (schemaOf (f .edition) s) st w i
   unfolding nameRule
   name-marked e = sym (obeys ∙ rw e)
 
@@ -192,37 +192,37 @@ module _ (s starts : List ℕ) (f : Frame) (rows : List ℕ) (w : List Bool) (re
     inside : inserted i (marked w) ≡ marked (set w i true)
     inside = let c = ready .marks in let d = ready .promise .few in fun-ext (λ j. sym (inserted-is w i j (omega arith)))
 
-    opened : (x : Slot) → slotOf (schemaOf s) i ≡ x → resolver s st w i ≡ contentSize (st i) (resolver s st w) (resolver s st (set w i true)) (contentIn (schemaOf s) i x)
+    opened : (x : Slot) → slotOf (schemaOf (f .edition) s) i ≡ x → resolver (schemaOf (f .edition) s) st w i ≡ contentSize (st i) (resolver (schemaOf (f .edition) s) st w) (resolver (schemaOf (f .edition) s) st (set w i true)) (contentIn (schemaOf (f .edition) s) i x)
     unfolding nameRule contentOf
-    opened x e = obeys ∙ rw free (ap₂ (λ (u : Working) (y : Slot). contentSize (st i) (resolver s st w) (nameSize (schemaOf s) st u) (contentIn (schemaOf s) i y)) inside e)
+    opened x e = obeys ∙ rw free (ap₂ (λ (u : Working) (y : Slot). contentSize (st i) (resolver (schemaOf (f .edition) s) st w) (nameSize (schemaOf (f .edition) s) st u) (contentIn (schemaOf (f .edition) s) i y)) inside e)
 
-    row-is : (x : Slot) → slotOf (schemaOf s) i ≡ x → rowAt rows i ≡ rowIn (slotRow (schemaOf s) st i x)
-    row-is x e = let c = ready .promise .count in row-of (schemaOf s) st rows H i (omega arith) ∙ ap (λ (y : Slot). rowIn (slotRow (schemaOf s) st i y)) e
+    row-is : (x : Slot) → slotOf (schemaOf (f .edition) s) i ≡ x → rowAt rows i ≡ rowIn (slotRow (schemaOf (f .edition) s) st i x)
+    row-is x e = let c = ready .promise .count in row-of (schemaOf (f .edition) s) st rows H i (omega arith) ∙ ap (λ (y : Slot). rowIn (slotRow (schemaOf (f .edition) s) st i y)) e
 
-    pub name-known : {y : Worked} → rowAt rows i ≡ Row.Known y → y ≡ resolver s st w i
-    name-known q = sym (opened _ refl ∙ row-known (schemaOf s) st i _ _ _ _ (stored-few s starts f (ready .promise) i h) (sym (row-is _ refl) ∙ q))
+    pub name-known : {y : Worked} → rowAt rows i ≡ Row.Known y → y ≡ resolver (schemaOf (f .edition) s) st w i
+    name-known q = sym (opened _ refl ∙ row-known (schemaOf (f .edition) s) st i _ _ _ _ (stored-few s starts f (ready .promise) i h) (sym (row-is _ refl) ∙ q))
 
     module _ (unknown : rowAt rows i ≡ Row.None) {r : Worked} where
-      pub name-message : (m : Message) → slotOf (schemaOf s) i ≡ message m → r ≡ fieldsSize (resolver s st (set w i true)) (m .fields) → r ≡ resolver s st w i
+      pub name-message : (m : Message) → slotOf (schemaOf (f .edition) s) i ≡ message m → r ≡ fieldsSize (resolver (schemaOf (f .edition) s) st (set w i true)) (m .fields) → r ≡ resolver (schemaOf (f .edition) s) st w i
       unfolding contentIn contentSize slotRow
       name-message m e q =
           let z = not-stored (st i) (sym (row-is _ e) ∙ unknown) in
-          q ∙ sym (opened _ e ∙ ap (λ (o : Option Size). orElse o (fieldsSize (resolver s st (set w i true)) (m .fields))) z)
+          q ∙ sym (opened _ e ∙ ap (λ (o : Option Size). orElse o (fieldsSize (resolver (schemaOf (f .edition) s) st (set w i true)) (m .fields))) z)
 
-      pub name-union : (u : Union) → slotOf (schemaOf s) i ≡ union u → r ≡ unionSize (resolver s st (set w i true)) (u .variants) → r ≡ resolver s st w i
+      pub name-union : (u : Union) → slotOf (schemaOf (f .edition) s) i ≡ union u → r ≡ unionSize (resolver (schemaOf (f .edition) s) st (set w i true)) (u .variants) → r ≡ resolver (schemaOf (f .edition) s) st w i
       unfolding contentIn contentSize slotRow
       name-union u e q =
           let z = not-stored (st i) (sym (row-is _ e) ∙ unknown) in
-          q ∙ sym (opened _ e ∙ ap (λ (o : Option Size). orElse o (unionSize (resolver s st (set w i true)) (u .variants))) z)
+          q ∙ sym (opened _ e ∙ ap (λ (o : Option Size). orElse o (unionSize (resolver (schemaOf (f .edition) s) st (set w i true)) (u .variants))) z)
 
-      pub name-newtype : (n : Newtype) → slotOf (schemaOf s) i ≡ newtype n → r ≡ typeSize (resolver s st w) (n .terminal) → r ≡ resolver s st w i
+      pub name-newtype : (n : Newtype) → slotOf (schemaOf (f .edition) s) i ≡ newtype n → r ≡ typeSize (resolver (schemaOf (f .edition) s) st w) (n .terminal) → r ≡ resolver (schemaOf (f .edition) s) st w i
       unfolding contentIn contentSize
       name-newtype n e q = q ∙ sym (opened _ e)
 
-    pub name-other : rowAt rows i ≡ Row.None → (k : ℕ) → slotKind (slotOf (schemaOf s) i) ≡ k → (k ≡ 1 → ⊥) → (k ≡ 4 → ⊥) → (k ≡ 5 → ⊥)
-        → Sized (Open 0) ≡ resolver s st w i
+    pub name-other : rowAt rows i ≡ Row.None → (k : ℕ) → slotKind (slotOf (schemaOf (f .edition) s) i) ≡ k → (k ≡ 1 → ⊥) → (k ≡ 4 → ⊥) → (k ≡ 5 → ⊥)
+        → Sized (Open 0) ≡ resolver (schemaOf (f .edition) s) st w i
     name-other unknown k e u v t =
-        sym (opened _ refl ∙ row-other (schemaOf s) st i _ _ _ (λ z. u (sym e ∙ z)) (λ z. v (sym e ∙ z)) (λ z. t (sym e ∙ z)) (sym (row-is _ refl) ∙ unknown))
+        sym (opened _ refl ∙ row-other (schemaOf (f .edition) s) st i _ _ _ (λ z. u (sym e ∙ z)) (λ z. v (sym e ∙ z)) (λ z. t (sym e ∙ z)) (sym (row-is _ refl) ∙ unknown))
 
 pub newtype-content : (S : Schema) (i : ℕ) (n : Newtype) → slotOf S i ≡ newtype n → contentOf S i ≡ terminal (n .terminal)
 unfolding contentOf contentIn

@@ -5,9 +5,12 @@ use mathlib.Core.List.{List, [], _∷_}
 use mathlib.Core.Bool.{Bool, true, false}
 use native.Mathlib.Omega.{arith}
 use lib.ListN.{length}
-use Rattle.number.specs.Grammar.{many, done, below, read}
+use Rattle.number.specs.Grammar.{many, counted, done, below, read}
 use Rattle.number.proofs.Reading.{Front, counted-on, many-length}
 use Rattle.slot.specs.Field.{Field, fieldAt, fieldsAt}
+use Rattle.slot.specs.declared.Edition.{Edition}
+use Rattle.image.specs.Schema.{Schema}
+use Rattle.image.specs.declared.Frame.{Frame}
 use Rattle.reader.specs.Reading.{schemaOf}
 use Rattle.sizes.specs.declared.Size.{Size}
 use Rattle.sizes.specs.declared.Size.the-variants.{Bounded}
@@ -20,7 +23,6 @@ use Rattle.sizes.specs.Steps.{over-not}
 use Rattle.total.specs.Totals.{sizeOf, totalOf}
 use Rattle.wiresize.specs.Rows.{RowsHold}
 use Rattle.wiresize.specs.Asked.{resolver}
-use Rattle.wiresize.specs.Steps.{variantsAt}
 use Rattle.wiresize.proofs.Fields.{none-left, first-of, same-thing, fields-behind, FieldsLeft, fields-start, fields-end, fields-sum}
 
 pub clash : {b c : Bool} → b ≡ true → b ≡ c → c ≡ false → ⊥
@@ -56,65 +58,68 @@ unfolding unionSize
 union-none R [] h = refl
 union-none R (v ∷ vs) h = absurd (omega arith)
 
-module _ (s : List ℕ) (names : ℕ) (rows : List ℕ) (w : List Bool) (count first : ℕ) where
+module _ (s : List ℕ) (f : Frame) (rows : List ℕ) (w : List Bool) (count first : ℕ) where
+  abbrev pub S : Schema
+  S = schemaOf (f .edition) s
+
   abbrev pub Whole : List (List Field) → ℕ → Type 0
-  Whole vs e = read (many count (fieldsAt names)) s first ≡ done vs e
+  Whole vs e = read (many count (fieldsAt (f .edition) (f .names))) s first ≡ done vs e
 
   -- the variants from `here` on widen the extremes to those of all variants
   pub record VariantsLeft (left here : ℕ) (extremes : Size) : Type 0 where
     pub variants : List (List Field)
     pub end : ℕ
-    pub reads : read (many left (fieldsAt names)) s here ≡ done variants end
-    pub widens : (vs : List (List Field)) (e : ℕ) → Whole vs e → (st : State) → RowsHold (schemaOf s) st rows
-        → addVariants (resolver s st w) extremes variants ≡ addVariants (resolver s st w) (Bounded mark 0) vs
+    pub reads : read (many left (fieldsAt (f .edition) (f .names))) s here ≡ done variants end
+    pub widens : (vs : List (List Field)) (e : ℕ) → Whole vs e → (st : State) → RowsHold S st rows
+        → addVariants (resolver S st w) extremes variants ≡ addVariants (resolver S st w) (Bounded mark 0) vs
 
   pub variants-start : (vs : List (List Field)) (e : ℕ) → Whole vs e → VariantsLeft count first (Bounded mark 0)
   variants-start vs e q =
-      record { variants = vs; end = e; reads = q; widens = λ xs d p st H. ap (addVariants (resolver s st w) (Bounded mark 0)) (same-thing q p .0) }
+      record { variants = vs; end = e; reads = q; widens = λ xs d p st H. ap (addVariants (resolver S st w) (Bounded mark 0)) (same-thing q p .0) }
 
   module _ {left here : ℕ} {extremes : Size} (l : VariantsLeft left here extremes) where
     module _ (h : 0 < left) where
-      pub next-variant : Front (fieldsAt names) s (left - 1) here (l .variants) (l .end)
-      next-variant = first-of (fieldsAt names) s left here h (l .variants) (l .end) (l .reads)
+      pub next-variant : Front (fieldsAt (f .edition) (f .names)) s (left - 1) here (l .variants) (l .end)
+      next-variant = first-of (fieldsAt (f .edition) (f .names)) s left here h (l .variants) (l .end) (l .reads)
 
       module _ {fields after : ℕ} (b : below 65537 s here ≡ done fields after) where
-        pub variant-fields : read (many fields (fieldAt names)) s after ≡ done (next-variant .first) (next-variant .middle)
-        variant-fields = fields-behind s names here b (next-variant .here)
+        pub variant-fields : read (many fields (fieldAt (f .edition) (f .names))) s after ≡ done (next-variant .first) (next-variant .middle)
+        variant-fields = fields-behind s (f .edition) (f .names) here b (next-variant .here)
 
-        pub variant-start : {total : List ℕ} → total ≡ totalOf (Size.Fixed 0) → FieldsLeft s names rows w fields after fields after total
-        variant-start i = fields-start s names rows w fields after _ _ variant-fields i
+        pub variant-start : {total : List ℕ} → total ≡ totalOf (Size.Fixed 0) → FieldsLeft s f rows w fields after fields after total
+        variant-start i = fields-start s f rows w fields after _ _ variant-fields i
 
-        pub variant-turn : {more at : ℕ} {total : List ℕ} {z wider : Size} → FieldsLeft s names rows w fields after more at total → more ≤ 0
+        pub variant-turn : {more at : ℕ} {total : List ℕ} {z wider : Size} → FieldsLeft s f rows w fields after more at total → more ≤ 0
             → z ≡ sizeOf total → wider ≡ widened extremes z → VariantsLeft (left - 1) at wider
         variant-turn i m c d =
-            let f = next-variant in
-            let n = fields-end s names rows w fields after i m _ _ variant-fields in
+            let g = next-variant in
+            let n = fields-end s f rows w fields after i m _ _ variant-fields in
             record {
-              variants = f .others;
+              variants = g .others;
               end = l .end;
-              reads = subst (λ (p : ℕ). read (many (left - 1) (fieldsAt names)) s p ≡ done (f .others) (l .end)) (sym n) (f .rest);
+              reads = subst (λ (p : ℕ). read (many (left - 1) (fieldsAt (f .edition) (f .names))) s p ≡ done (g .others) (l .end)) (sym n) (g .rest);
               widens = λ vs e q st H.
-                  ap (λ (x : Size). addVariants (resolver s st w) x (f .others)) d
-                  ∙ sym (ap (addVariants (resolver s st w) extremes) (f .whole)
-                  ∙ extremes-on _ extremes (f .first) (f .others) (fields-sum s names rows w fields after i m _ _ variant-fields c st H))
+                  ap (λ (x : Size). addVariants (resolver S st w) x (g .others)) d
+                  ∙ sym (ap (addVariants (resolver S st w) extremes) (g .whole)
+                  ∙ extremes-on _ extremes (g .first) (g .others) (fields-sum s f rows w fields after i m _ _ variant-fields c st H))
                   ∙ l .widens vs e q st H;
             }
 
-        pub variant-over : (o : Operation) → ((fs : List Field) (e : ℕ) → read (many fields (fieldAt names)) s after ≡ done fs e → (st : State) → RowsHold (schemaOf s) st rows
-            → Over o ≡ fieldsSize (resolver s st w) fs) → (vs : List (List Field)) (e : ℕ) → Whole vs e → (st : State) → RowsHold (schemaOf s) st rows
-            → Over o ≡ unionSize (resolver s st w) vs
+        pub variant-over : (o : Operation) → ((fs : List Field) (e : ℕ) → read (many fields (fieldAt (f .edition) (f .names))) s after ≡ done fs e → (st : State) → RowsHold S st rows
+            → Over o ≡ fieldsSize (resolver S st w) fs) → (vs : List (List Field)) (e : ℕ) → Whole vs e → (st : State) → RowsHold S st rows
+            → Over o ≡ unionSize (resolver S st w) vs
         variant-over o h′ vs e q st H =
-            let f = next-variant in
-            union-over _ vs o (sym (l .widens vs e q st H) ∙ ap (addVariants (resolver s st w) extremes) (f .whole)
-            ∙ extremes-over _ extremes (f .first) (f .others) o (h′ _ _ variant-fields st H))
+            let g = next-variant in
+            union-over _ vs o (sym (l .widens vs e q st H) ∙ ap (addVariants (resolver S st w) extremes) (g .whole)
+            ∙ extremes-over _ extremes (g .first) (g .others) o (h′ _ _ variant-fields st H))
 
     pub variants-end : 0 < count → left ≤ 0 → {r : Worked} → r ≡ limitedSum (raised 8 extremes) → (vs : List (List Field)) (e : ℕ) → Whole vs e → (st : State)
-        → RowsHold (schemaOf s) st rows → r ≡ unionSize (resolver s st w) vs
+        → RowsHold S st rows → r ≡ unionSize (resolver S st w) vs
     variants-end c h q vs e p st H =
-        union-sized _ vs (let z = many-length (fieldsAt names) s count first vs e p in omega arith)
-        (sym (l .widens vs e p st H) ∙ extremes-done _ extremes (none-left (fieldsAt names) s left here h (l .variants) (l .end) (l .reads) .0)) q
+        union-sized _ vs (let z = many-length (fieldsAt (f .edition) (f .names)) s count first vs e p in omega arith)
+        (sym (l .widens vs e p st H) ∙ extremes-done _ extremes (none-left (fieldsAt (f .edition) (f .names)) s left here h (l .variants) (l .end) (l .reads) .0)) q
 
 -- the variants behind their count
-pub variants-behind : (s : List ℕ) (names at : ℕ) {count first : ℕ} → below 65537 s at ≡ done count first → {vs : List (List Field)} {e : ℕ}
-    → read (variantsAt names) s at ≡ done vs e → read (many count (fieldsAt names)) s first ≡ done vs e
-variants-behind s names at b q = sym (counted-on (fieldsAt names) s at _ _ b) ∙ q
+pub variants-behind : (s : List ℕ) (ed : Edition) (names at : ℕ) {count first : ℕ} → below 65537 s at ≡ done count first → {vs : List (List Field)} {e : ℕ}
+    → read (counted (fieldsAt ed names)) s at ≡ done vs e → read (many count (fieldsAt ed names)) s first ≡ done vs e
+variants-behind s ed names at b q = sym (counted-on (fieldsAt ed names) s at _ _ b) ∙ q

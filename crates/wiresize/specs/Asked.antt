@@ -6,6 +6,7 @@ use mathlib.Core.Bool.{Bool, false}
 use mathlib.Core.Option.{Option, none, some}
 use lib.ListN.{length, getD}
 use Rattle.number.specs.Grammar.{Grammar, done, read}
+use Rattle.image.specs.Schema.{Schema}
 use Rattle.image.specs.declared.Frame.{Frame}
 use Rattle.reader.specs.Reading.{schemaOf}
 use Rattle.reader.specs.Promise.{Promise}
@@ -37,25 +38,25 @@ pub record Asked {A : Type 0} (g : Grammar A) (s starts : List ℕ) (f : Frame) 
   pub reads : read g s at ≡ done thing end
 
 -- what names come to while slots are marked
-abbrev pub resolver : (s : List ℕ) → State → List Bool → Resolver
-resolver s st w = nameSize (schemaOf s) st (marked w)
+abbrev pub resolver : Schema → State → List Bool → Resolver
+resolver S st w = nameSize S st (marked w)
 
 -- the size of what stands there, whatever the sizes stored, if the table holds them
-pub record WorksOut {A : Type 0} (g : Grammar A) (size : Resolver → A → Worked) (s rows : List ℕ) (w : List Bool) (at : ℕ) (r : Worked) : Type 0 where
-  pub worked : (x : A) (end : ℕ) → read g s at ≡ done x end → (st : State) → RowsHold (schemaOf s) st rows → r ≡ size (resolver s st w) x
+pub record WorksOut {A : Type 0} (g : Grammar A) (size : Resolver → A → Worked) (s : List ℕ) (f : Frame) (rows : List ℕ) (w : List Bool) (at : ℕ) (r : Worked) : Type 0 where
+  pub worked : (x : A) (end : ℕ) → read g s at ≡ done x end → (st : State) → RowsHold (schemaOf (f .edition) s) st rows → r ≡ size (resolver (schemaOf (f .edition) s) st w) x
 
 -- and, where it has one, the position after it
-pub record Walks {A : Type 0} (g : Grammar A) (size : Resolver → A → Worked) (s rows : List ℕ) (w : List Bool) (at : ℕ) (r : Walked) : Type 0 where
+pub record Walks {A : Type 0} (g : Grammar A) (size : Resolver → A → Worked) (s : List ℕ) (f : Frame) (rows : List ℕ) (w : List Bool) (at : ℕ) (r : Walked) : Type 0 where
   pub next : (x : A) (end : ℕ) → read g s at ≡ done x end → (z : Size) → r .worked ≡ Sized z → r .next ≡ end
-  pub works : WorksOut g size s rows w at (r .worked)
+  pub works : WorksOut g size s f rows w at (r .worked)
 
-pub record Names (s rows : List ℕ) (w : List Bool) (id : ℕ) (r : Worked) : Type 0 where
-  pub worked : (st : State) → RowsHold (schemaOf s) st rows → r ≡ resolver s st w id
+pub record Names (S : Schema) (rows : List ℕ) (w : List Bool) (id : ℕ) (r : Worked) : Type 0 where
+  pub worked : (st : State) → RowsHold S st rows → r ≡ resolver S st w id
 
 -- the table holds the sizes of some state: what it holds of messages and unions is all that a size depends on
-pub record Held (s rows : List ℕ) : Type 0 where
+pub record Held (S : Schema) (rows : List ℕ) : Type 0 where
   pub state : State
-  pub holds : RowsHold (schemaOf s) state rows
+  pub holds : RowsHold S state rows
 
 -- what a turn answers
 abbrev pub turnOf : Turned → Option Worked
@@ -63,5 +64,5 @@ turnOf (Turned.Sized s) = some (Sized s)
 turnOf (Turned.Over o) = some (Over o)
 turnOf Turned.Other = none
 
-pub record Owns (s rows : List ℕ) (slot : ℕ) (r : Turned) : Type 0 where
-  pub turn : (st : State) → RowsHold (schemaOf s) st rows → turnOf r ≡ ownSize (schemaOf s) st slot
+pub record Owns (S : Schema) (rows : List ℕ) (slot : ℕ) (r : Turned) : Type 0 where
+  pub turn : (st : State) → RowsHold S st rows → turnOf r ≡ ownSize S st slot

@@ -2,11 +2,12 @@
 use Prim.Native.Nat.{ℕ, _^_}
 use mathlib.Core.Path.{_≡_}
 use mathlib.Core.List.{List}
-use Rattle.number.specs.Grammar.{Grammar, counted, done, below, read}
+use Rattle.number.specs.Grammar.{done, below, read}
 use Rattle.tree.specs.Tree.{Tree, Leaf, Wrap, Pair, leaf, wrap, fixedArray, pair, generic, leafKind, leafNumber, wrapKind, pairKind}
 use Rattle.tree.specs.Encoding.{Encoding, default, varint, zigZag, delta}
 use Rattle.tree.specs.declared.Head.{Head}
-use Rattle.slot.specs.Field.{typeAt, fieldAt, fieldsAt, Field}
+use Rattle.slot.specs.Field.{typeAt, limitAt, fieldAt, Field}
+use Rattle.slot.specs.declared.Edition.{Edition}
 use Rattle.sizes.specs.declared.Size.{Size}
 use Rattle.sizes.specs.declared.Worked.{Worked}
 use Rattle.sizes.specs.declared.Worked.the-variants.{Sized, Over}
@@ -16,10 +17,6 @@ use Rattle.wiresize.specs.declared.Decided.{Decided}
 use Rattle.wiresize.specs.declared.Coded.{Coded}
 use Rattle.wiresize.specs.declared.Settled.{Settled}
 use Rattle.wiresize.specs.declared.Turned.{Turned}
-
--- the variants of a union
-abbrev pub variantsAt : (names : ℕ) → Grammar (List (List Field))
-variantsAt names = counted (fieldsAt names)
 
 -- the kind and the number of a type, by its head
 abbrev pub kindIn : Head → ℕ
@@ -107,15 +104,30 @@ codedAs zigZag n = Coded.ZigZag n
 codedAs (delta e) n = codedAs e n
 
 -- where a field's type stands
-pub record Coding (names : ℕ) (s : List ℕ) (x : Field) (end : ℕ) (r : Coded) : Type 0 where
+pub record Coding (names : ℕ) (s : List ℕ) (x : Field) (behind : ℕ) (r : Coded) : Type 0 where
   pub place : ℕ
   pub coded : r ≡ codedAs (x .encoding) place
-  pub reads : read (typeAt names) s place ≡ done (x .type) end
+  pub reads : read (typeAt names) s place ≡ done (x .type) behind
 
--- a field: its size, whatever names come to; or where its type stands, if that decides
+-- whatever the edition, a field's type stands there, and its limit behind the type
+abbrev pub Codes : (names : ℕ) → List ℕ → (at : ℕ) → Coded → Type 0
+Codes names s at r =
+    (ed : Edition) (x : Field) (end : ℕ) → read (fieldAt ed names) s at ≡ done x end
+    → (behind : ℕ) × Coding names s x behind r × (read (limitAt ed) s behind ≡ done (x .limit) end)
+
+-- a field up to its limit: its size, whatever names come to; or where its type stands, if that decides
 unfoldable pub Settles : (names : ℕ) → List ℕ → (at : ℕ) → Settled → Type 0
-Settles names s at (Settled.Is w) = (x : Field) (end : ℕ) → read (fieldAt names) s at ≡ done x end → (w .next ≡ end) × ((R : Resolver) → w .worked ≡ fieldSize R x)
-Settles names s at (Settled.At p) = (x : Field) (end : ℕ) → read (fieldAt names) s at ≡ done x end → (read (typeAt names) s p ≡ done (x .type) end) × ((R : Resolver) → typeSize R (x .type) ≡ fieldSize R x)
+Settles names s at (Settled.Is w) =
+    (ed : Edition) (x : Field) (end : ℕ) → read (fieldAt ed names) s at ≡ done x end
+    → (read (limitAt ed) s (w .next) ≡ done (x .limit) end) × ((R : Resolver) → w .worked ≡ fieldSize R x)
+Settles names s at (Settled.At p) =
+    (ed : Edition) (x : Field) (end : ℕ) → read (fieldAt ed names) s at ≡ done x end
+    → (behind : ℕ) × (read (typeAt names) s p ≡ done (x .type) behind) × (read (limitAt ed) s behind ≡ done (x .limit) end) × ((R : Resolver) → typeSize R (x .type) ≡ fieldSize R x)
+
+-- what was worked out up to a limit, and the position after the limit
+pub record PastLimit (ed : Edition) (s : List ℕ) (field r : Walked) : Type 0 where
+  pub worked : r .worked ≡ field .worked
+  pub next : (l end : ℕ) → read (limitAt ed) s (field .next) ≡ done l end → r .next ≡ end
 
 -- what is made of a part, at the part's end: a size only where the part has one
 pub record Made (part r : Walked) (size : Worked → Worked) : Type 0 where

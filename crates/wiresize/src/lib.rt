@@ -5,6 +5,7 @@ use number::Ranged;
 use sizes::Operation;
 use sizes::Size;
 use sizes::Worked;
+use slot::Edition;
 use slot::Short;
 use total::Step;
 use tree::Head;
@@ -14,15 +15,16 @@ ghost use mathlib.Core.Path.{_≡_};
 ghost use mathlib.Core.List.{List};
 ghost use Prim.Native.Nat.{ℕ, _+_, _*_, _<_, _≤_};
 ghost use lib.ListN.{length};
-ghost use Rattle.number.specs.Grammar.{done, read};
+ghost use Rattle.number.specs.Grammar.{counted, done, read};
 ghost use Rattle.tree.specs.Encoding.{Encoding, encodingAt};
 ghost use Rattle.tree.specs.TreeAt.{headAt, shape};
-ghost use Rattle.slot.specs.Field.{typeAt, fieldAt, fieldsAt, Field};
+ghost use Rattle.slot.specs.Field.{typeAt, fieldAt, fieldsAt};
 ghost use Rattle.slot.specs.Short.{shortAt};
 ghost use Rattle.slot.specs.declared.Short.{Short};
+ghost use Rattle.reader.specs.Reading.{schemaOf};
 ghost use Rattle.reader.specs.Promise.{Promise};
 ghost use Rattle.sizes.specs.Sizes.{typeSize, fieldSize, fieldsSize, unionSize, varintEnd, zigZagEnd};
-ghost use Rattle.wiresize.specs.Steps.{codedAs, kindIn, numberIn, Passed, Decides, Coding, Settles, Wraps, Results, Arrays, Closes, variantsAt, turnedAs};
+ghost use Rattle.wiresize.specs.Steps.{codedAs, kindIn, numberIn, Passed, Decides, Codes, Settles, PastLimit, Wraps, Results, Arrays, Closes, turnedAs};
 ghost use Rattle.wiresize.specs.Rows.{rowAt};
 ghost use Rattle.wiresize.specs.Asked.{Asked, Ready, Walks, WorksOut, Names, Held, Owns};
 
@@ -170,7 +172,7 @@ fn read_coded(image: &[u8], at: usize) -> Coded
 
 // The type of a field.
 fn field_type(image: &[u8], at: usize, names: u64) -> Coded
-    ensures { λ r. ⌜ ((x : Field) (end : ℕ) → read (fieldAt names) (now (image .entry)) at ≡ done x end → Coding names (now (image .entry)) x end r) ⌝ }
+    ensures { λ r. ⌜ Codes names (now (image .entry)) at r ⌝ }
 {
     match number::skip_below(image, at, names) {
         Next::At(p) => read_coded(image, p),
@@ -197,7 +199,7 @@ fn sized(size: Size, next: usize) -> Settled
     })
 }
 
-// A field of four bytes, by them. A name is still to be worked out.
+// A field of four bytes before its limit, by them. A name is still to be worked out.
 fn settle_short(place: usize, next: usize, encoding: u64, kind: u64, number: u64) -> Settled
     ensures { λ r. ⌜ ((names : ℕ) (s : List ℕ) (at : ℕ) → place ≡ at + 2 → next ≡ at + 4 → shortAt names s at ≡ Short.Is encoding kind number → Settles names s at r) ⌝ }
 {
@@ -220,6 +222,15 @@ fn settle(image: &[u8], at: usize, names: u64) -> Settled
         }
         Short::Other => settle_long(image, at, names),
     }
+}
+
+// A field's limit stands behind its type; what is worked out does not depend on it.
+fn pass_limit(image: &[u8], field: Walked, edition: Edition) -> Walked
+    ensures { λ r. ⌜ PastLimit edition (now (image .entry)) field r ⌝ }
+{
+    let worked = field.worked;
+    let next = view::place_of(slot::skip_limit(image, Next::At(field.next), edition));
+    Walked { worked, next }
 }
 
 // What the table says of a slot: nothing of a message or union that has no stored size yet, nor of other slots.
@@ -339,7 +350,7 @@ fn compute_resolved_type_wire_size(
     working: &[bool; 512],
 ) -> Walked
     requires { ⌜ Asked (typeAt (frame .names)) (now image) (now starts) frame (now rows) (now working) at ⌝ }
-    ensures { λ r. ⌜ Walks (typeAt (frame .names)) typeSize (now (image .entry)) (now (rows .entry)) (now (working .entry)) at r ⌝ }
+    ensures { λ r. ⌜ Walks (typeAt (frame .names)) typeSize (now (image .entry)) frame (now (rows .entry)) (now (working .entry)) at r ⌝ }
 {
     let names = frame.names;
     let head = tree::read_head(image, at, Sort::Resolved, names);
@@ -380,7 +391,7 @@ fn named_type_wire_size(
     working: &[bool; 512],
 ) -> Worked
     requires { ⌜ Ready (now image) (now starts) frame (now rows) (now working) ⌝ }
-    ensures { λ r. ⌜ Names (now (image .entry)) (now (rows .entry)) (now (working .entry)) id r ⌝ }
+    ensures { λ r. ⌜ Names (schemaOf (frame .edition) (now (image .entry))) (now (rows .entry)) (now (working .entry)) id r ⌝ }
 {
     if id >= frame.slots {
         return Worked::Sized(Size::Open(0));
@@ -426,13 +437,15 @@ fn compute_type_wire_size(
     at: usize,
     working: &[bool; 512],
 ) -> Walked
-    requires { ⌜ Asked (fieldAt (frame .names)) (now image) (now starts) frame (now rows) (now working) at ⌝ }
-    ensures { λ r. ⌜ Walks (fieldAt (frame .names)) fieldSize (now (image .entry)) (now (rows .entry)) (now (working .entry)) at r ⌝ }
+    requires { ⌜ Asked (fieldAt (frame .edition) (frame .names)) (now image) (now starts) frame (now rows) (now working) at ⌝ }
+    ensures { λ r. ⌜ Walks (fieldAt (frame .edition) (frame .names)) fieldSize (now (image .entry)) frame (now (rows .entry)) (now (working .entry)) at r ⌝ }
 {
+    let edition = frame.edition;
     match settle(image, at, frame.names) {
-        Settled::Is(field) => field,
+        Settled::Is(field) => pass_limit(image, field, edition),
         Settled::At(p) => {
-            compute_resolved_type_wire_size(image, starts, frame, rows, p, working)
+            let field = compute_resolved_type_wire_size(image, starts, frame, rows, p, working);
+            pass_limit(image, field, edition)
         }
     }
 }
@@ -446,8 +459,8 @@ fn compute_message_wire_size(
     at: usize,
     working: &[bool; 512],
 ) -> Worked
-    requires { ⌜ Asked (fieldsAt (frame .names)) (now image) (now starts) frame (now rows) (now working) at ⌝ }
-    ensures { λ r. ⌜ WorksOut (fieldsAt (frame .names)) fieldsSize (now (image .entry)) (now (rows .entry)) (now (working .entry)) at r ⌝ }
+    requires { ⌜ Asked (fieldsAt (frame .edition) (frame .names)) (now image) (now starts) frame (now rows) (now working) at ⌝ }
+    ensures { λ r. ⌜ WorksOut (fieldsAt (frame .edition) (frame .names)) fieldsSize (now (image .entry)) frame (now (rows .entry)) (now (working .entry)) at r ⌝ }
 {
     let Ranged::Value(count, first) = number::read_below(image, at, 65537) else {
         return Worked::Over(Operation::Sum);
@@ -476,8 +489,8 @@ fn compute_union_wire_size(
     at: usize,
     working: &[bool; 512],
 ) -> Worked
-    requires { ⌜ Asked (variantsAt (frame .names)) (now image) (now starts) frame (now rows) (now working) at ⌝ }
-    ensures { λ r. ⌜ WorksOut (variantsAt (frame .names)) unionSize (now (image .entry)) (now (rows .entry)) (now (working .entry)) at r ⌝ }
+    requires { ⌜ Asked (counted (fieldsAt (frame .edition) (frame .names))) (now image) (now starts) frame (now rows) (now working) at ⌝ }
+    ensures { λ r. ⌜ WorksOut (counted (fieldsAt (frame .edition) (frame .names))) unionSize (now (image .entry)) frame (now (rows .entry)) (now (working .entry)) at r ⌝ }
 {
     let Ranged::Value(count, first) = number::read_below(image, at, 65537) else {
         return Worked::Over(Operation::Sum);
@@ -529,8 +542,8 @@ fn turn_from(worked: Worked) -> Turned
 
 // A declared slot at its turn, itself being worked out.
 pub fn own_size(image: &[u8], starts: &[usize], frame: Frame, rows: &[u64], slot: usize) -> Turned
-    requires { ⌜ Promise (now image) (now starts) frame × (slot < frame .slots) × (3 * frame .slots ≤ length (now rows)) × Held (now image) (now rows) ⌝ }
-    ensures { λ r. ⌜ Owns (now (image .entry)) (now (rows .entry)) slot r ⌝ }
+    requires { ⌜ Promise (now image) (now starts) frame × (slot < frame .slots) × (3 * frame .slots ≤ length (now rows)) × Held (schemaOf (frame .edition) (now image)) (now rows) ⌝ }
+    ensures { λ r. ⌜ Owns (schemaOf (frame .edition) (now (image .entry))) (now (rows .entry)) slot r ⌝ }
 {
     let Part::At(kind, _) = view::slot_part(image, starts, slot) else {
         return Turned::Other;

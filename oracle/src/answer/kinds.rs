@@ -10,7 +10,7 @@ use crate::ast::TypeExpr;
 use crate::ir::{ResolvedType, POISON_TYPE_ID};
 
 /// Kinds 0 to 18 of expressions, then a parameter, and what finds nothing.
-const ROWS: [&str; 21] = [
+pub const ROWS: [&str; 21] = [
     "Primitive",
     "SubByte",
     "Semantic",

@@ -3,6 +3,7 @@
 //! Refusals 1 to 9 come from the importer, 11 and 14 from sizes worked out here
 //! in 128 bits, sizes and findings from the upstream check.
 
+mod added;
 mod fields;
 mod findings;
 mod kinds;
@@ -15,7 +16,9 @@ pub(crate) mod widths;
 
 use std::fmt::Write;
 
+use crate::format::Edition;
 use crate::import::Refusal;
+pub use added::AddedCounts;
 pub use fields::{each_wanted, Wanted};
 pub use kinds::FieldCounts;
 pub use limit::{Operation, Part, PassedLimit};
@@ -62,8 +65,8 @@ fn refused(number: u64, place: u64) -> Answer {
 
 /// Answers an image, unless the check would take more than `STEP_LIMIT` steps.
 /// Slots that lead on and on take a long stack: see `workers::on_long_stack`.
-pub fn answer(image: &[u8], places: Places) -> Result<Answer, TooLong> {
-    Whole::of(image).answer(places)
+pub fn answer(image: &[u8], edition: Edition, places: Places) -> Result<Answer, TooLong> {
+    Whole::of(image, edition).answer(places)
 }
 
 /// The output of `vexcheck` for an answer.

@@ -1,6 +1,7 @@
 //! All that is worked out for an image before places are lent for it, so that
 //! one working-out answers for tables of any length.
 
+use super::added::AddedCounts;
 use super::fields::each_wanted;
 use super::findings::{findings, mark_spans, Finding};
 use super::kinds::FieldCounts;
@@ -8,6 +9,7 @@ use super::limit::PassedLimit;
 use super::sizes::{size_table, Stop};
 use super::steps::{Steps, TooLong, STEP_LIMIT};
 use super::{refused, Answer, Places};
+use crate::format::Edition;
 use crate::import::{import, Refusal};
 use crate::ir::{CompiledSchema, TypeDef, TypeId, WireSize};
 use crate::typeck::{check, compute_wire_sizes};
@@ -50,36 +52,43 @@ pub struct Whole {
     pub unions: Unions,
     /// Trait fields that were searched for, if the findings are known.
     pub fields: FieldCounts,
+    /// What edition two adds, or was refused of it.
+    pub added: AddedCounts,
     sizes: Result<Vec<u64>, Failure>,
     findings: Result<Vec<u32>, TooLong>,
 }
 
 impl Whole {
     /// Sizes and findings.
-    pub fn of(image: &[u8]) -> Self {
-        Self::within(image, STEP_LIMIT)
+    pub fn of(image: &[u8], edition: Edition) -> Self {
+        Self::within(image, edition, STEP_LIMIT)
     }
 
     /// Sizes and findings, if they take so many steps at most.
-    pub fn within(image: &[u8], steps: u64) -> Self {
-        Self::worked(image, true, steps)
+    pub fn within(image: &[u8], edition: Edition, steps: u64) -> Self {
+        Self::worked(image, edition, true, steps)
     }
 
     /// Sizes alone; the findings are left out as if they took too long.
-    pub fn sizes_of(image: &[u8]) -> Self {
-        Self::worked(image, false, STEP_LIMIT)
+    pub fn sizes_of(image: &[u8], edition: Edition) -> Self {
+        Self::worked(image, edition, false, STEP_LIMIT)
     }
 
-    fn worked(image: &[u8], with_findings: bool, steps: u64) -> Self {
+    fn worked(image: &[u8], edition: Edition, with_findings: bool, steps: u64) -> Self {
         let mut whole = Self {
             starts: Vec::new(),
             deepest: 0,
             unions: [0; 3],
             fields: FieldCounts::default(),
+            added: AddedCounts::default(),
             sizes: Err(Failure::TooLong),
             findings: Err(TooLong),
         };
-        match import(image) {
+        let imported = import(image, edition);
+        if edition == Edition::Two {
+            whole.added.count(image, &imported);
+        }
+        match imported {
             Ok(imported) => {
                 whole.starts = imported.starts;
                 whole.work_out(imported.schema, with_findings, steps);

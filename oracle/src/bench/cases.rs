@@ -2,39 +2,72 @@
 
 use crate::example::bond_report;
 use crate::export::export;
-use crate::format::IMAGE_LIMIT;
+use crate::format::{Edition, IMAGE_LIMIT};
 use crate::generate::bounds::full_enum;
-use crate::generate::full::{full_names, one_message};
+use crate::generate::full::{filled, full_names, one_message};
 use crate::generate::loops::{alias_ring, newtype_order, newtype_ring};
 use crate::generate::schemas::{schema_of, Style};
 use crate::model::{
-    declared, field, fixed, generic, message, pair, wrap, Encoding, Field, Impl, Schema, Slot,
-    Stored, Tree, ARRAY, BOOL, MAP, OPTIONAL, RESULT, U32, U8, VEC3,
+    declared, field, fixed, generic, live, message, pair, wrap, Encoding, Field, Impl, Schema,
+    Slot, Stored, Tree, ARRAY, BOOL, MAP, OPTIONAL, RESULT, U32, U8, VEC3,
 };
 use crate::random::Random;
 
+/// An image of edition one.
 pub struct Case {
     pub name: &'static str,
     pub image: Vec<u8>,
 }
 
 pub fn cases() -> Vec<Case> {
+    let rows = rows(Edition::One).into_iter();
+    let case = |row: Row| Case {
+        name: row.name,
+        image: (row.written)(Edition::One),
+    };
+    rows.map(case).collect()
+}
+
+/// The same schema in both editions, without limits or retired ones.
+pub struct Pair {
+    pub name: &'static str,
+    pub images: [Vec<u8>; 2],
+}
+
+pub fn pairs() -> Vec<Pair> {
+    let rows = rows(Edition::Two).into_iter();
+    let pair = |row: Row| Pair {
+        name: row.name,
+        images: Edition::ALL.map(row.written),
+    };
+    rows.map(pair).collect()
+}
+
+struct Row {
+    name: &'static str,
+    written: Box<dyn Fn(Edition) -> Vec<u8>>,
+}
+
+/// All schemas; those that are full fill an image of this edition.
+fn rows(edition: Edition) -> Vec<Row> {
     let mut random = Random::new(40, 0);
     let style = Style {
         valid: true,
         stored: false,
     };
-    let case = |name, schema: Schema| Case {
+    let case = |name, schema: Schema| Row {
         name,
-        image: schema.bytes(),
+        written: Box::new(move |edition| schema.bytes(edition)),
     };
     vec![
         case("nothing", Schema::default()),
         case("one message, 2 fields", one_small_message()),
         case("one message, 12 fields", one_message_of(12)),
-        Case {
+        Row {
             name: "bond report",
-            image: export(&bond_report()).expect("the example is within the limits"),
+            written: Box::new(|edition| {
+                export(&bond_report(), edition).expect("the example is within the limits")
+            }),
         },
         case("typical, 40 slots", typical()),
         case("random, 40 slots", schema_of(&mut random, style, 40)),
@@ -42,13 +75,13 @@ pub fn cases() -> Vec<Case> {
         case("wide report, none found", wide_report(false)),
         case("40 messages, inner first", nested(40, false)),
         case("40 messages, outer first", nested(40, true)),
-        case("full, one message", one_message(&mut random)),
-        case("full, 512 messages", full_messages()),
+        case("full, one message", one_message(&mut random, edition)),
+        case("full, 512 messages", full_messages(edition)),
         case("512 newtypes in a ring", newtype_ring(512)),
         case("512 newtypes, full order", newtype_order(512, 29)),
         case("512 aliases in a ring", alias_ring(512)),
         case("full of names", full_names()),
-        case("full of ordinals", full_enum(IMAGE_LIMIT)),
+        case("full of ordinals", full_enum(IMAGE_LIMIT, edition)),
         case("full of inline bits", full_bits()),
     ]
 }
@@ -124,10 +157,15 @@ fn nested(count: u64, outer_first: bool) -> Schema {
 }
 
 /// 512 messages of equal length over the ones before them, to the last byte.
-fn full_messages() -> Schema {
+fn full_messages(edition: Edition) -> Schema {
+    // Edition two has a byte more for each field.
+    let plain = match edition {
+        Edition::One => 20,
+        Edition::Two => 16,
+    };
     let slot = |slot: u64| {
         let before = |by: u64| Tree::Named(slot.saturating_sub(by));
-        let mut fields: Vec<Field> = (0..20)
+        let mut fields: Vec<Field> = (0..plain)
             .map(|name| field(name, kind_of_field(name)))
             .collect();
         fields.push(field(20, wrap(OPTIONAL, before(1))));
@@ -135,7 +173,7 @@ fn full_messages() -> Schema {
         message(slot, fields)
     };
     let schema = declared(vec![0; 24], (0..512).map(slot).collect());
-    filled(schema)
+    filled(schema, edition)
 }
 
 /// Fields in turn: plain, optional, in arrays, encoded elsewhere.
@@ -149,15 +187,6 @@ fn kind_of_field(name: u64) -> Tree {
     }
 }
 
-/// Adds fields of four bytes to the last message while they fit.
-fn filled(mut schema: Schema) -> Schema {
-    let room = IMAGE_LIMIT.saturating_sub(schema.bytes().len());
-    if let Some(Slot::Message { fields, .. }) = schema.slots.last_mut() {
-        fields.extend(vec![field(0, U8); room / 4]);
-    }
-    schema
-}
-
 /// One newtype whose inner type is a bit field of all names that fit.
 fn full_bits() -> Schema {
     let newtype = |count| Slot::Newtype {
@@ -165,7 +194,7 @@ fn full_bits() -> Schema {
         terminal: U8,
     };
     let schema = |count| declared(vec![0], vec![newtype(count)]);
-    let room = IMAGE_LIMIT - schema(20_000).bytes().len();
+    let room = IMAGE_LIMIT - schema(20_000).bytes(Edition::One).len();
     schema(20_000 + room)
 }
 
@@ -210,14 +239,14 @@ fn enumeration(number: u64) -> Slot {
         backing: number % 2,
         non_exhaustive: number % 3 / 2,
         bits: 0,
-        ordinals: (0..4 + 2 * number).collect(),
+        ordinals: live((0..4 + 2 * number).collect()),
     }
 }
 
 fn flags(number: u64) -> Slot {
     Slot::Flags {
         bytes: 0,
-        bits: (0..6 + 5 * number).collect(),
+        bits: live((0..6 + 5 * number).collect()),
     }
 }
 

@@ -1,17 +1,17 @@
-//! Times of reading, of sizes and of the whole check, the Rust beside ours, in
-//! one run.
+//! Times of reading, of sizes and of the whole check, the Rust beside ours, and
+//! of edition two beside edition one, in one run.
 
 pub mod cases;
 
 use std::hint::black_box;
 use std::time::{Duration, Instant};
 
-use crate::format::SLOT_LIMIT;
+use crate::format::{Edition, SLOT_LIMIT};
 use crate::import::{import, Imported};
 use crate::ir::CompiledSchema;
 use crate::library::{Checker, Library};
 use crate::typeck::{check, compute_wire_sizes};
-use cases::{cases, Case};
+use cases::{cases, pairs, Case, Pair};
 
 /// Rounds of each measurement, in turns with the others.
 const ROUNDS: usize = 7;
@@ -24,6 +24,9 @@ const RUN_TIME: Duration = Duration::from_micros(200);
 /// Image bytes that the schemas of one prepared batch stand for, at most, so
 /// that they stay near the processor.
 const BATCH_BYTES: usize = 1 << 15;
+
+/// Edition two may take so many times what edition one takes.
+const BAR: f64 = 1.15;
 
 /// Makes so many calls and tells how long they took.
 type Work<'a> = Box<dyn FnMut(usize) -> Duration + 'a>;
@@ -51,9 +54,10 @@ const TASKS: [Task; 3] = [
         name: "image to size table",
         rust: compute_wire_sizes,
         ours: |image, ours| {
+            let size = ours.sizes?;
             let mut sizes = vec![0; size_places(image, ours)];
             Some(repeated(move || {
-                black_box((ours.sizes)(black_box(image), &mut sizes));
+                black_box(size(black_box(image), &mut sizes));
             }))
         },
     },
@@ -62,16 +66,19 @@ const TASKS: [Task; 3] = [
         rust: |schema| {
             black_box(check(schema));
         },
-        ours: |image, ours| {
-            let check = ours.check?;
-            let mut sizes = vec![0; size_places(image, ours)];
-            let mut findings = vec![0; finding_places(image, &mut sizes, check)];
-            Some(repeated(move || {
-                black_box(check(black_box(image), &mut sizes, &mut findings));
-            }))
-        },
+        ours: checked,
     },
 ];
+
+/// The whole check of a library.
+fn checked(image: &[u8], library: Library) -> Option<Work<'_>> {
+    let check = library.check?;
+    let mut sizes = vec![0; size_places(image, library)];
+    let mut findings = vec![0; finding_places(image, &mut sizes, check)];
+    Some(repeated(move || {
+        black_box(check(black_box(image), &mut sizes, &mut findings));
+    }))
+}
 
 /// Three places a slot, none for a refused image.
 fn size_places(image: &[u8], ours: Library) -> usize {
@@ -93,9 +100,9 @@ fn finding_places(image: &[u8], sizes: &mut [u64], check: Checker) -> usize {
     }
 }
 
-/// Prints a table a task, with a line a case. Without a library only the Rust
-/// is measured.
-pub fn bench(ours: Option<Library>) {
+/// Prints a table a task, with a line a case, and one of both editions. Without
+/// a library only the Rust is measured.
+pub fn bench(ours: Option<Library>, ours_two: Option<Library>) {
     let cases = cases();
     for task in &TASKS {
         println!(
@@ -104,13 +111,51 @@ pub fn bench(ours: Option<Library>) {
         );
         cases.iter().for_each(|case| line(task, case, ours));
     }
+    if let Some(libraries) = ours.zip(ours_two) {
+        editions(libraries.into());
+    }
+}
+
+/// The whole check of the same schemas in both editions.
+fn editions(libraries: [Library; 2]) {
+    println!(
+        "\n{:26}{:>8}{:>8}{:>13}{:>13}{:>9}",
+        "whole check, editions", "bytes 1", "bytes 2", "one, ns", "two, ns", "two/one"
+    );
+    let pairs = pairs();
+    let ratios = pairs.iter().map(|pair| edition_line(pair, libraries));
+    let ratios: Vec<f64> = ratios.collect();
+    let above = ratios.iter().filter(|&&ratio| ratio > BAR).count();
+    let largest = ratios.iter().copied().fold(0.0, f64::max);
+    println!("edition two takes {largest:.2} times edition one at most; {above} rows above {BAR}");
+}
+
+/// Prints a line and answers the ratio.
+fn edition_line(pair: &Pair, libraries: [Library; 2]) -> f64 {
+    let [one, two] = &pair.images;
+    let works = [one, two].into_iter().zip(libraries);
+    let works = works.map(|(image, library)| checked(image, library));
+    let mut works: Vec<Work<'_>> = works
+        .map(|work| work.expect("both have the check"))
+        .collect();
+    let times = fastest(&mut works);
+    let ratio = times[1] / times[0];
+    println!(
+        "{:26}{:>8}{:>8}{:>13.0}{:>13.0}{ratio:>9.2}",
+        pair.name,
+        one.len(),
+        two.len(),
+        times[0],
+        times[1]
+    );
+    ratio
 }
 
 fn line(task: &Task, case: &Case, ours: Option<Library>) {
     let image = &case.image;
     let mut works = vec![imported(image, task.rust)];
     // A refused image leaves nothing to do, and reading is all import.
-    let alone = match import(image) {
+    let alone = match import(image, Edition::One) {
         Ok(imported) if task.name != TASKS[0].name => Some(prepared(image, imported, task.rust)),
         _ => None,
     };
@@ -151,7 +196,7 @@ fn repeated<'a>(mut call: impl FnMut() + 'a) -> Work<'a> {
 /// Import, then the Rust function on what is imported.
 fn imported(image: &[u8], function: fn(&mut CompiledSchema)) -> Work<'_> {
     repeated(move || {
-        if let Ok(mut imported) = import(black_box(image)) {
+        if let Ok(mut imported) = import(black_box(image), Edition::One) {
             function(&mut imported.schema);
             black_box(imported);
         }

@@ -1,11 +1,12 @@
 //! Every boundary of the format, by one less, exact and one more, with the
-//! answer that document 01 gives.
+//! answer that the documents give.
 
 use std::sync::OnceLock;
 
+use super::added_bounds::added_bounds;
 use super::nesting::{encoding_levels, levels};
-use crate::format::{write_number, IMAGE_LIMIT};
-use crate::model::{Schema, Slot};
+use crate::format::{write_number, Edition, IMAGE_LIMIT};
+use crate::model::{live, Ordinals, Schema, Slot};
 
 /// An image, and its refusal if it is not accepted.
 #[derive(Debug)]
@@ -15,19 +16,29 @@ pub struct Boundary {
     pub refused: Option<(u64, u64)>,
 }
 
-/// All boundaries, made once.
-pub fn boundaries() -> &'static [Boundary] {
-    static ALL: OnceLock<Vec<Boundary>> = OnceLock::new();
-    ALL.get_or_init(|| {
-        let mut all = Vec::new();
-        whole_tables(&mut all);
-        image_bytes(&mut all);
-        number_limits(&mut all);
-        number_forms(&mut all);
-        levels(&mut all);
-        encoding_levels(&mut all);
-        all
-    })
+/// All boundaries of an edition, made once.
+pub fn boundaries(edition: Edition) -> &'static [Boundary] {
+    static ONE: OnceLock<Vec<Boundary>> = OnceLock::new();
+    static TWO: OnceLock<Vec<Boundary>> = OnceLock::new();
+    match edition {
+        Edition::One => ONE.get_or_init(|| all_of(edition)),
+        Edition::Two => TWO.get_or_init(|| {
+            let mut all = all_of(edition);
+            added_bounds(&mut all);
+            all
+        }),
+    }
+}
+
+fn all_of(edition: Edition) -> Vec<Boundary> {
+    let mut all = Vec::new();
+    whole_tables(&mut all, edition);
+    image_bytes(&mut all, edition);
+    number_limits(&mut all, NUMBERS);
+    number_forms(&mut all);
+    levels(&mut all, edition);
+    encoding_levels(&mut all, edition);
+    all
 }
 
 pub fn add(all: &mut Vec<Boundary>, what: String, image: Vec<u8>, refused: Option<(u64, u64)>) {
@@ -39,35 +50,34 @@ pub fn add(all: &mut Vec<Boundary>, what: String, image: Vec<u8>, refused: Optio
 }
 
 /// Names, slots and declarations, complete.
-fn whole_tables(all: &mut Vec<Boundary>) {
+fn whole_tables(all: &mut Vec<Boundary>, edition: Edition) {
+    let mut add_schema = |what, schema: Schema, refused: Option<u64>| {
+        let refused = refused.map(|place| (4, place));
+        add(all, what, schema.bytes(edition), refused);
+    };
     for count in 4_095..=4_097 {
         let schema = Schema {
             names: vec![0; count],
             ..Schema::default()
         };
-        let refused = (count > 4_096).then_some((4, 0));
-        add(all, format!("{count} names"), schema.bytes(), refused);
+        let refused = (count > 4_096).then_some(0);
+        add_schema(format!("{count} names"), schema, refused);
     }
     for count in 511..=513 {
         let schema = Schema {
             slots: vec![Slot::Config; count],
             ..Schema::default()
         };
-        let refused = (count > 512).then_some((4, 1));
-        add(all, format!("{count} slots"), schema.bytes(), refused);
+        let refused = (count > 512).then_some(1);
+        add_schema(format!("{count} slots"), schema, refused);
     }
     for count in 1_023..=1_025 {
         let schema = Schema {
             declarations: vec![0; count],
             ..Schema::default()
         };
-        let refused = (count > 1_024).then_some((4, 2));
-        add(
-            all,
-            format!("{count} declarations"),
-            schema.bytes(),
-            refused,
-        );
+        let refused = (count > 1_024).then_some(2);
+        add_schema(format!("{count} declarations"), schema, refused);
     }
     for find in 511..=513 {
         let schema = Schema {
@@ -75,16 +85,16 @@ fn whole_tables(all: &mut Vec<Boundary>) {
             slots: vec![Slot::Config; 512],
             ..Schema::default()
         };
-        let refused = (find > 512).then_some((4, 1));
-        add(all, format!("name finds {find}"), schema.bytes(), refused);
+        let refused = (find > 512).then_some(1);
+        add_schema(format!("name finds {find}"), schema, refused);
     }
 }
 
 /// 65,536 bytes, by the ordinals of one enum.
-fn image_bytes(all: &mut Vec<Boundary>) {
+fn image_bytes(all: &mut Vec<Boundary>, edition: Edition) {
     for length in [IMAGE_LIMIT - 1, IMAGE_LIMIT, IMAGE_LIMIT + 1] {
         let refused = (length > IMAGE_LIMIT).then_some((1, 0));
-        let image = full_enum(length).bytes();
+        let image = full_enum(length, edition).bytes(edition);
         assert_eq!(image.len(), length);
         add(all, format!("{length} bytes"), image, refused);
     }
@@ -92,23 +102,33 @@ fn image_bytes(all: &mut Vec<Boundary>) {
     add(all, "too many false bytes".into(), garbage, Some((1, 0)));
 }
 
-/// An image of `length` bytes (above 40,000) that is one enum.
-pub fn full_enum(length: usize) -> Schema {
-    // Names, slots, the enum's four numbers, a count of three bytes, declarations.
-    let ordinals = length - 10;
+/// One enum that is an image of `length` bytes (above 40,000) in an edition.
+pub fn full_enum(length: usize, edition: Edition) -> Schema {
+    // Names, slots, the enum's four numbers, a count of three bytes, in edition
+    // two that of the retired ones, declarations.
+    let around = match edition {
+        Edition::One => 10,
+        Edition::Two => 11,
+    };
+    one_enum(live(vec![1; length - around]))
+}
+
+pub fn one_enum(ordinals: Ordinals) -> Schema {
     Schema {
         slots: vec![Slot::Enum {
             backing: 0,
             non_exhaustive: 0,
             bits: 0,
-            ordinals: vec![1; ordinals],
+            ordinals,
         }],
         ..Schema::default()
     }
 }
 
-/// The bytes before a number, and the number's limit.
-const NUMBERS: &[(&str, &[u8], u64)] = &[
+/// What a number is, the bytes before it, and its limit.
+pub type Bound = (&'static str, &'static [u8], u64);
+
+const NUMBERS: &[Bound] = &[
     ("slot kind", &[0, 1], 9),
     ("span offset", &[0, 1, 1], 0xffff_ffff),
     ("span length", &[0, 1, 1, 0], 0xffff_ffff),
@@ -158,8 +178,8 @@ const NUMBERS: &[(&str, &[u8], u64)] = &[
 ];
 
 /// Each number at its limit, the image ending right after it.
-fn number_limits(all: &mut Vec<Boundary>) {
-    for &(what, before, limit) in NUMBERS {
+pub fn number_limits(all: &mut Vec<Boundary>, numbers: &[Bound]) {
+    for &(what, before, limit) in numbers {
         let above = limit.checked_add(1);
         let values = [limit.checked_sub(1), Some(limit), above, Some(u64::MAX)];
         for value in values.into_iter().flatten() {
@@ -182,7 +202,7 @@ fn number_limits(all: &mut Vec<Boundary>) {
 
 /// Forms of a number, and their refusal; none if they are in range.
 #[rustfmt::skip]
-const FORMS: &[(&[u8], Option<u64>)] = &[
+pub const FORMS: &[(&[u8], Option<u64>)] = &[
     (&[0x80], Some(2)),
     (&[0x80; 9], Some(2)),
     (&[0x80; 10], Some(3)),

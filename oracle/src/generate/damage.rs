@@ -1,9 +1,12 @@
 //! Images that begin as valid ones and are then cut, changed or added to.
 
+use std::ops::Range;
+
+use super::additions::written;
 use super::schemas::{schema, Style};
 use super::Emit;
 use crate::draft::{Draft, Number};
-use crate::format::write_number;
+use crate::format::{write_number, Edition, COUNT_LIMIT};
 use crate::random::Random;
 
 const RICH: Style = Style {
@@ -11,13 +14,14 @@ const RICH: Style = Style {
     stored: true,
 };
 
-fn draft(random: &mut Random) -> Draft {
-    Draft::new(&schema(random, RICH))
+fn draft(random: &mut Random, edition: Edition) -> Draft {
+    let schema = schema(random, RICH);
+    written(random, schema, edition)
 }
 
 /// All beginnings of an image.
-pub fn truncated(random: &mut Random, emit: Emit<'_>) {
-    let image = draft(random).bytes;
+pub fn truncated(random: &mut Random, edition: Edition, emit: Emit<'_>) {
+    let image = draft(random, edition).bytes;
     for length in 0..image.len().min(400) {
         emit(&image[..length]);
     }
@@ -26,8 +30,8 @@ pub fn truncated(random: &mut Random, emit: Emit<'_>) {
 }
 
 /// One byte changed, at every place of an image.
-pub fn single_bytes(random: &mut Random, emit: Emit<'_>) {
-    let mut image = draft(random).bytes;
+pub fn single_bytes(random: &mut Random, edition: Edition, emit: Emit<'_>) {
+    let mut image = draft(random, edition).bytes;
     for at in 0..image.len().min(400) {
         let kept = image[at];
         image[at] = match random.below(7) {
@@ -45,8 +49,8 @@ pub fn single_bytes(random: &mut Random, emit: Emit<'_>) {
 }
 
 /// A few bytes taken out, put in or put twice.
-pub fn spliced(random: &mut Random, emit: Emit<'_>) {
-    let mut image = draft(random).bytes;
+pub fn spliced(random: &mut Random, edition: Edition, emit: Emit<'_>) {
+    let mut image = draft(random, edition).bytes;
     for _ in 0..=random.below(3) {
         let at = random.below(image.len() as u64 + 1) as usize;
         let length = random.below(4).min((image.len() - at) as u64) as usize;
@@ -65,16 +69,16 @@ pub fn spliced(random: &mut Random, emit: Emit<'_>) {
 }
 
 /// The beginning of one image, then the end of another.
-pub fn crossed(random: &mut Random, emit: Emit<'_>) {
-    let (one, other) = (draft(random).bytes, draft(random).bytes);
+pub fn crossed(random: &mut Random, edition: Edition, emit: Emit<'_>) {
+    let (one, other) = (draft(random, edition).bytes, draft(random, edition).bytes);
     let cut = random.below(one.len() as u64 + 1) as usize;
     let from = random.below(other.len() as u64 + 1) as usize;
     emit(&[&one[..cut], &other[from..]].concat());
 }
 
 /// Bytes after the last declaration.
-pub fn trailing(random: &mut Random, emit: Emit<'_>) {
-    let mut image = draft(random).bytes;
+pub fn trailing(random: &mut Random, edition: Edition, emit: Emit<'_>) {
+    let mut image = draft(random, edition).bytes;
     for _ in 0..=random.below(4) {
         image.push(random.uneven() as u8);
     }
@@ -82,7 +86,7 @@ pub fn trailing(random: &mut Random, emit: Emit<'_>) {
 }
 
 /// Short images of random bytes, most of them small.
-pub fn random_bytes(random: &mut Random, emit: Emit<'_>) {
+pub fn random_bytes(random: &mut Random, _: Edition, emit: Emit<'_>) {
     let length = random.below(24);
     let byte = |_| match random.below(6) {
         0 => random.bits() as u8,
@@ -94,43 +98,79 @@ pub fn random_bytes(random: &mut Random, emit: Emit<'_>) {
 }
 
 /// Numbers not in their shortest form, or beyond 64 bits.
-pub fn malformed(random: &mut Random, emit: Emit<'_>) {
-    let draft = draft(random);
+pub fn malformed(random: &mut Random, edition: Edition, emit: Emit<'_>) {
+    let draft = draft(random, edition);
     for _ in 0..8 {
         let index = random.below(draft.numbers.len() as u64) as usize;
-        let mut form = draft.bytes[range(&draft, index)].to_vec();
-        match random.below(6) {
-            0 => lengthen(&mut form, 1),
-            1 => lengthen(&mut form, 1 + random.below(9) as usize),
-            2 => form = [vec![0xff; 9], vec![random.below(4) as u8]].concat(),
-            3 => form = vec![0x80; 9 + random.below(3) as usize],
-            4 => form = [vec![0x80; 9], vec![random.pick(&[0, 1, 2, 0x80, 0x81])]].concat(),
-            _ => form = vec![0x81, 0x80, 0],
-        }
-        let mut image = replaced(&draft, index, &form);
-        if random.once_in(3) {
-            image.truncate(draft.numbers[index].at + form.len());
-        }
-        emit(&image);
+        emit(&malformed_at(random, &draft, index));
     }
 }
 
+fn malformed_at(random: &mut Random, draft: &Draft, index: usize) -> Vec<u8> {
+    let mut form = draft.bytes[range(draft, index)].to_vec();
+    match random.below(6) {
+        0 => lengthen(&mut form, 1),
+        1 => lengthen(&mut form, 1 + random.below(9) as usize),
+        2 => form = [vec![0xff; 9], vec![random.below(4) as u8]].concat(),
+        3 => form = vec![0x80; 9 + random.below(3) as usize],
+        4 => form = [vec![0x80; 9], vec![random.pick(&[0, 1, 2, 0x80, 0x81])]].concat(),
+        _ => form = vec![0x81, 0x80, 0],
+    }
+    let mut image = replaced(draft, index, &form);
+    if random.once_in(3) {
+        image.truncate(draft.numbers[index].at + form.len());
+    }
+    image
+}
+
 /// Numbers at their limits, one less and one more, and far beyond.
-pub fn out_of_range(random: &mut Random, emit: Emit<'_>) {
-    let draft = draft(random);
+pub fn out_of_range(random: &mut Random, edition: Edition, emit: Emit<'_>) {
+    let draft = draft(random, edition);
     for _ in 0..8 {
         let index = random.below(draft.numbers.len() as u64) as usize;
-        let Number { limit, .. } = draft.numbers[index];
-        let value = match random.below(8) {
-            0 => u64::MAX,
-            1 => limit.saturating_sub(1),
-            2 | 3 => limit,
-            4 => random.uneven(),
-            _ => limit.saturating_add(1),
+        emit(&out_of_range_at(random, &draft, index));
+    }
+}
+
+fn out_of_range_at(random: &mut Random, draft: &Draft, index: usize) -> Vec<u8> {
+    let Number { limit, .. } = draft.numbers[index];
+    let value = match random.below(8) {
+        0 => u64::MAX,
+        1 => limit.saturating_sub(1),
+        2 | 3 => limit,
+        4 => random.uneven(),
+        _ => limit.saturating_add(1),
+    };
+    let mut form = Vec::new();
+    write_number(value, &mut form);
+    replaced(draft, index, &form)
+}
+
+/// Numbers that edition two adds, each cut, malformed or out of its range.
+pub fn added(random: &mut Random, edition: Edition, emit: Emit<'_>) {
+    let draft = draft(random, edition);
+    let mut added: Vec<usize> = (0..draft.numbers.len()).collect();
+    added.retain(|&index| draft.numbers[index].added);
+    if added.is_empty() {
+        return emit(&draft.bytes);
+    }
+    let mut counts = added.clone();
+    counts.retain(|&index| draft.numbers[index].limit == COUNT_LIMIT);
+    for _ in 0..8 {
+        // Counts are rare among them.
+        let index = match random.once_in(3) && !counts.is_empty() {
+            true => random.pick(&counts),
+            false => random.pick(&added),
         };
-        let mut form = Vec::new();
-        write_number(value, &mut form);
-        emit(&replaced(&draft, index, &form));
+        match random.below(3) {
+            0 => {
+                let Range { start, end } = range(&draft, index);
+                let kept = random.below((end - start) as u64) as usize;
+                emit(&draft.bytes[..start + kept]);
+            }
+            1 => emit(&malformed_at(random, &draft, index)),
+            _ => emit(&out_of_range_at(random, &draft, index)),
+        }
     }
 }
 
@@ -142,7 +182,7 @@ fn lengthen(form: &mut Vec<u8>, groups: usize) {
     form.push(0);
 }
 
-fn range(draft: &Draft, index: usize) -> std::ops::Range<usize> {
+fn range(draft: &Draft, index: usize) -> Range<usize> {
     let end = draft.numbers.get(index + 1).map(|number| number.at);
     draft.numbers[index].at..end.unwrap_or(draft.bytes.len())
 }

@@ -4,9 +4,7 @@
 
 use std::sync::OnceLock;
 
-use super::bounds::{add, Boundary};
 use super::first::{by_product, by_sum, first_steps, PRODUCT, SUM};
-use super::Emit;
 use crate::format::SIZE_LIMIT;
 use crate::model::{
     field, fixed, message, pair, union, wrap, Encoding, Field, Schema, Slot, Stored, Tree, BOOL,
@@ -14,9 +12,25 @@ use crate::model::{
 };
 use crate::random::Random;
 
+/// A schema, and its refusal if it is not accepted, in either edition.
+#[derive(Debug)]
+pub struct Edge {
+    pub what: String,
+    pub schema: Schema,
+    pub refused: Option<(u64, u64)>,
+}
+
+pub fn add(all: &mut Vec<Edge>, what: String, schema: Schema, refused: Option<(u64, u64)>) {
+    all.push(Edge {
+        what,
+        schema,
+        refused,
+    });
+}
+
 /// All edges, made once.
-pub fn all_edges() -> &'static [Boundary] {
-    static ALL: OnceLock<Vec<Boundary>> = OnceLock::new();
+pub fn all_edges() -> &'static [Edge] {
+    static ALL: OnceLock<Vec<Edge>> = OnceLock::new();
     ALL.get_or_init(|| {
         let mut all = Vec::new();
         for operation in OPERATIONS {
@@ -35,9 +49,9 @@ pub fn all_edges() -> &'static [Boundary] {
     })
 }
 
-pub fn edges(random: &mut Random, emit: Emit<'_>) {
+pub fn edges(random: &mut Random) -> Schema {
     let all = all_edges();
-    emit(&all[random.below(all.len() as u64) as usize].image);
+    all[random.below(all.len() as u64) as usize].schema.clone()
 }
 
 /// What an operation makes of an element, the greatest smallest and largest
@@ -300,34 +314,34 @@ fn schema(first: Slot, around: Around, form: Form, bits: u64) -> Schema {
     }
 }
 
-fn edge(all: &mut Vec<Boundary>, operation: &Operation, form: Form, around: Around) {
+fn edge(all: &mut Vec<Edge>, operation: &Operation, form: Form, around: Around) {
     let least = operation.least.filter(|_| form.has_least());
     let most = operation.most.filter(|_| form.has_most());
     let greatest = least.into_iter().chain(most).min();
     let what = format!("{} of {form:?} below {around:?}", operation.what);
-    let mut add_image = |bits, refused| {
+    let mut add_edge = |bits, refused| {
         let first = (operation.make)(form.tree(bits));
-        let image = schema(first, around, form, bits).bytes();
-        add(all, format!("{what}, {bits} bits"), image, refused);
+        let schema = schema(first, around, form, bits);
+        add(all, format!("{what}, {bits} bits"), schema, refused);
     };
-    add_image(greatest.unwrap_or(SIZE_LIMIT), None);
+    add_edge(greatest.unwrap_or(SIZE_LIMIT), None);
     if let Some(greatest) = greatest {
-        add_image(greatest - 1, None);
-        add_image(greatest + 1, Some((operation.number, around.place())));
+        add_edge(greatest - 1, None);
+        add_edge(greatest + 1, Some((operation.number, around.place())));
     }
 }
 
 /// Elements that pass the limit themselves, before anything is made of them.
-fn past_before(all: &mut Vec<Boundary>, operation: &Operation, around: Around) {
+fn past_before(all: &mut Vec<Edge>, operation: &Operation, around: Around) {
     for (element, number) in [(by_sum(), SUM), (by_product(), PRODUCT)] {
         let what = format!("{} of {element:?} below {around:?}", operation.what);
-        let image = schema((operation.make)(element), around, Form::Array, 0).bytes();
-        add(all, what, image, Some((number, around.place())));
+        let schema = schema((operation.make)(element), around, Form::Array, 0);
+        add(all, what, schema, Some((number, around.place())));
     }
 }
 
 /// Largest totals beside a field without one: it ends them only from there on.
-fn running_totals(all: &mut Vec<Boundary>) {
+fn running_totals(all: &mut Vec<Edge>) {
     let large = Tree::Named(1);
     let open = Tree::Semantic(0);
     let orders = [
@@ -344,7 +358,7 @@ fn running_totals(all: &mut Vec<Boundary>) {
                 slots: vec![slot, Form::Largest.element(SIZE_LIMIT)],
                 declarations: vec![0],
             };
-            add(all, what.into(), schema.bytes(), refused);
+            add(all, what.into(), schema, refused);
         }
     }
 }

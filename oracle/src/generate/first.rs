@@ -1,7 +1,7 @@
 //! The first step that passes the limit, where several would: document 02
 //! tells a sum (11) from a product (14) by it.
 
-use super::bounds::{add, Boundary};
+use super::edges::{add, Edge};
 use crate::format::SIZE_LIMIT;
 use crate::model::{
     declared, field, fixed, message, pair, union, wrap, Field, Schema, Slot, Tree, BOOL, OPTIONAL,
@@ -106,7 +106,7 @@ fn variant_lists() -> Vec<(Vec<Vec<Tree>>, u64)> {
 }
 
 /// All of them, in a declared slot and in one that a declared slot names.
-pub fn first_steps(all: &mut Vec<Boundary>) {
+pub fn first_steps(all: &mut Vec<Edge>) {
     for (trees, number) in field_lists() {
         let what = format!("{trees:?}");
         around(all, &what, message(0, fields(trees.clone())), number);
@@ -132,21 +132,21 @@ const AROUND: [fn(Tree) -> Slot; 8] = [
     |name| message(0, fields(vec![vec2(name)])),
 ];
 
-fn around(all: &mut Vec<Boundary>, what: &str, slot: Slot, number: u64) {
+fn around(all: &mut Vec<Edge>, what: &str, slot: Slot, number: u64) {
     let alone = declared(vec![0], vec![slot.clone()]);
-    refused(all, what.to_owned(), &alone, number, 0);
+    refused(all, what.to_owned(), alone, number, 0);
     for (index, make) in AROUND.iter().enumerate() {
         let schema = Schema {
             names: vec![0],
             slots: vec![slot.clone(), make(Tree::Named(0))],
             declarations: vec![1],
         };
-        refused(all, format!("{what} in {index}"), &schema, number, 1);
+        refused(all, format!("{what} in {index}"), schema, number, 1);
     }
 }
 
 /// Of two declared slots the first in the list gives number and place.
-fn turns(all: &mut Vec<Boundary>) {
+fn turns(all: &mut Vec<Edge>) {
     let slots = [by_sum(), by_product()].map(|tree| message(0, fields(vec![tree])));
     for (declarations, number, place) in [(vec![0, 1], SUM, 0), (vec![1, 0], PRODUCT, 1)] {
         let schema = Schema {
@@ -154,10 +154,10 @@ fn turns(all: &mut Vec<Boundary>) {
             slots: slots.to_vec(),
             declarations,
         };
-        refused(all, format!("{number} first"), &schema, number, place);
+        refused(all, format!("{number} first"), schema, number, place);
     }
 }
 
-fn refused(all: &mut Vec<Boundary>, what: String, schema: &Schema, number: u64, place: u64) {
-    add(all, what, schema.bytes(), Some((number, place)));
+fn refused(all: &mut Vec<Edge>, what: String, schema: Schema, number: u64, place: u64) {
+    add(all, what, schema, Some((number, place)));
 }

@@ -1,22 +1,32 @@
 //! Images near 65,536 bytes.
 
+use super::additions::{limit, written};
+use super::bounds::full_enum;
 use super::schemas::{schema_of, Style};
 use super::trees::{field, Pool};
 use super::Emit;
-use crate::format::IMAGE_LIMIT;
-use crate::model::{field as plain_field, message, union, Schema, Slot, Tree};
+use crate::format::{Edition, IMAGE_LIMIT};
+use crate::model::{field as plain_field, message, union, Field, Schema, Slot, Tree, U8};
 use crate::random::Random;
 
 /// A full image, then one cut and one changed.
-pub fn full(random: &mut Random, emit: Emit<'_>) {
-    let schema = match random.below(5) {
-        0 => one_message(random),
-        1 => schema_of(random, STYLE, 512),
-        2 => full_names(),
-        3 => super::bounds::full_enum(IMAGE_LIMIT - random.below(3) as usize),
-        _ => many_variants(random),
+pub fn full(random: &mut Random, edition: Edition, emit: Emit<'_>) {
+    let mut image = match random.below(5) {
+        0 => match edition {
+            Edition::One => one_message(random, edition).bytes(edition),
+            Edition::Two => limited_message(random).bytes(edition),
+        },
+        1 => {
+            let schema = schema_of(random, STYLE, 512);
+            written(random, schema, edition).bytes
+        }
+        2 => full_names().bytes(edition),
+        3 => full_enum(IMAGE_LIMIT - random.below(3) as usize, edition).bytes(edition),
+        _ => {
+            let schema = many_variants(random);
+            written(random, schema, edition).bytes
+        }
     };
-    let mut image = schema.bytes();
     emit(&image);
     let at = random.below(image.len() as u64) as usize;
     emit(&image[..at]);
@@ -29,14 +39,28 @@ const STYLE: Style = Style {
     stored: true,
 };
 
-/// One message with fields to the last byte or nearly so.
-pub fn one_message(random: &mut Random) -> Schema {
-    let pool = Pool::types(vec![0, 1, 2], 2);
+/// One message of fields without limits, to the last byte or nearly so.
+pub fn one_message(random: &mut Random, edition: Edition) -> Schema {
+    message_of(edition, || any_field(random))
+}
+
+fn limited_message(random: &mut Random) -> Schema {
+    message_of(Edition::Two, || Field {
+        limit: limit(random),
+        ..any_field(random)
+    })
+}
+
+fn any_field(random: &mut Random) -> Field {
+    field(random, 6, &Pool::types(vec![0, 1, 2], 2))
+}
+
+fn message_of(edition: Edition, mut field: impl FnMut() -> Field) -> Schema {
     let mut fields = Vec::new();
     let mut bytes = 20;
     while bytes < IMAGE_LIMIT - 100 {
-        let one = field(random, 6, &pool);
-        bytes += field_bytes(&one);
+        let one = field();
+        bytes += field_bytes(&one, edition);
         fields.push(one);
     }
     let schema = Schema {
@@ -44,23 +68,28 @@ pub fn one_message(random: &mut Random) -> Schema {
         slots: vec![message(0, fields)],
         declarations: vec![0],
     };
-    filled(schema)
+    filled(schema, edition)
 }
 
-fn field_bytes(field: &crate::model::Field) -> usize {
-    let alone = |fields| Schema {
-        names: vec![],
-        slots: vec![message(0, fields)],
-        declarations: vec![],
+fn field_bytes(field: &Field, edition: Edition) -> usize {
+    let bytes = |fields| {
+        let alone = Schema {
+            names: vec![],
+            slots: vec![message(0, fields)],
+            declarations: vec![],
+        };
+        alone.bytes(edition).len()
     };
-    alone(vec![field.clone()]).bytes().len() - alone(vec![]).bytes().len()
+    bytes(vec![field.clone()]) - bytes(vec![])
 }
 
-/// Adds fields of four bytes while they fit.
-fn filled(mut schema: Schema) -> Schema {
-    let room = IMAGE_LIMIT.saturating_sub(schema.bytes().len());
-    if let Some(Slot::Message { fields, .. }) = schema.slots.first_mut() {
-        fields.extend(vec![plain_field(0, Tree::Primitive(1)); room / 4]);
+/// Adds short fields to the last slot, a message, while they fit.
+pub fn filled(mut schema: Schema, edition: Edition) -> Schema {
+    let short = plain_field(0, U8);
+    let room = IMAGE_LIMIT.saturating_sub(schema.bytes(edition).len());
+    let more = room / field_bytes(&short, edition);
+    if let Some(Slot::Message { fields, .. }) = schema.slots.last_mut() {
+        fields.extend(vec![short; more]);
     }
     schema
 }
@@ -78,7 +107,8 @@ pub fn full_names() -> Schema {
         slots,
         declarations: (0..1_024).map(|slot| slot % 512).collect(),
     };
-    let room = IMAGE_LIMIT - schema.bytes().len();
+    // Neither edition adds anything to it.
+    let room = IMAGE_LIMIT - schema.bytes(Edition::One).len();
     schema.slots[511] = names(20_000 + room);
     schema
 }

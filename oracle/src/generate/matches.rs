@@ -4,8 +4,8 @@
 use super::near::{Near, NOWHERE};
 use super::schemas::{declarations, span, with_encoding};
 use crate::model::{
-    field, fixed, generic, message, pair, wrap, Field, Impl, Schema, Slot, Tree, MAP, OPTIONAL,
-    RESULT, U8,
+    field, fixed, generic, message, pair, wrap, Field, Impl, Ordinals, Schema, Slot, Tree, MAP,
+    OPTIONAL, RESULT, U8,
 };
 use crate::random::Random;
 
@@ -62,7 +62,10 @@ const U8_ENUM: Slot = Slot::Enum {
     backing: 1,
     non_exhaustive: 0,
     bits: 8,
-    ordinals: vec![],
+    ordinals: Ordinals {
+        live: vec![],
+        retired: vec![],
+    },
 };
 
 /// None, or so many that numbers take one byte or two.

@@ -1,6 +1,7 @@
 //! Types, expressions and encodings at the limit of 32 levels.
 
 use super::bounds::{add, Boundary};
+use crate::format::Edition;
 use crate::model::{
     field, fixed, generic, pair, wrap, Encoding, Field, Impl, Schema, Slot, Stored, Tree, MAP,
     RESULT, VOID,
@@ -63,22 +64,22 @@ fn impl_of(arguments: Vec<Tree>, target: Tree) -> Slot {
 }
 
 /// One name, and one slot after it.
-fn alone(slot: Slot) -> Vec<u8> {
+fn alone(slot: Slot, edition: Edition) -> Vec<u8> {
     let schema = Schema {
         names: vec![0],
         slots: vec![slot],
         declarations: vec![],
     };
-    schema.bytes()
+    schema.bytes(edition)
 }
 
 /// Types and expressions of 31 to 34 levels.
-pub fn levels(all: &mut Vec<Boundary>) {
+pub fn levels(all: &mut Vec<Boundary>, edition: Edition) {
     for around in TYPES {
         for nest in NESTS {
-            nested(all, around, nest);
+            nested(all, around, nest, edition);
         }
-        let kind_17 = nested_image(around, NESTS[0], Tree::Qualified(0), 33);
+        let kind_17 = nested_image(around, NESTS[0], Tree::Qualified(0), 33, edition);
         let place = (around.1 + 32) as u64;
         add(
             all,
@@ -89,9 +90,9 @@ pub fn levels(all: &mut Vec<Boundary>) {
     }
     for around in EXPRESSIONS {
         for nest in NESTS.into_iter().chain([GENERIC]) {
-            nested(all, around, nest);
+            nested(all, around, nest, edition);
         }
-        let kind_18 = nested_image(around, NESTS[0], generic(0, VOID), 33);
+        let kind_18 = nested_image(around, NESTS[0], generic(0, VOID), 33, edition);
         let place = (around.1 + 32) as u64;
         add(
             all,
@@ -103,17 +104,23 @@ pub fn levels(all: &mut Vec<Boundary>) {
 }
 
 /// `levels` levels, the last being `leaf`.
-fn nested_image(around: Around, nest: Nest, leaf: Tree, levels: usize) -> Vec<u8> {
+fn nested_image(
+    around: Around,
+    nest: Nest,
+    leaf: Tree,
+    levels: usize,
+    edition: Edition,
+) -> Vec<u8> {
     let tree = (1..levels).fold(leaf, |tree, _| nest.3(tree));
-    alone(around.2(tree))
+    alone(around.2(tree), edition)
 }
 
-fn nested(all: &mut Vec<Boundary>, around: Around, nest: Nest) {
+fn nested(all: &mut Vec<Boundary>, around: Around, nest: Nest, edition: Edition) {
     // Level 33 is met at the first part of what stands at level 32.
     let place = around.1 + 31 * nest.1 + nest.2;
     for levels in 31..=34 {
         let what = format!("{} {} at {levels} levels", around.0, nest.0);
-        let image = nested_image(around, nest, VOID, levels);
+        let image = nested_image(around, nest, VOID, levels, edition);
         let refused = (levels > 32).then_some((5, place as u64));
         if levels == 33 {
             let cut = image[..place].to_vec();
@@ -124,21 +131,22 @@ fn nested(all: &mut Vec<Boundary>, around: Around, nest: Nest) {
 }
 
 /// Delta in Delta; the type after it begins its own levels.
-pub fn encoding_levels(all: &mut Vec<Boundary>) {
+pub fn encoding_levels(all: &mut Vec<Boundary>, edition: Edition) {
     for levels in 31..=34 {
         let deep = (1..32).fold(VOID, |tree, _| wrap(4, tree));
-        let image = alone(Slot::Message {
+        let encoded = Field {
+            encoding: Encoding {
+                deltas: levels - 1,
+                last: 1,
+            },
+            ..field(0, deep)
+        };
+        let slot = Slot::Message {
             span: (0, 0),
             stored: Stored::None,
-            fields: vec![Field {
-                name: 0,
-                encoding: Encoding {
-                    deltas: levels - 1,
-                    last: 1,
-                },
-                tree: deep,
-            }],
-        });
+            fields: vec![encoded],
+        };
+        let image = alone(slot, edition);
         let refused = (levels > 32).then_some((5, 9 + 32));
         add(all, format!("encoding at {levels} levels"), image, refused);
     }

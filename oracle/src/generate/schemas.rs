@@ -1,7 +1,7 @@
 //! Random schemas with slots of all kinds.
 
 use super::trees::{encoding, field, tree, Pool};
-use crate::model::{Field, Impl, Schema, Slot, Stored, Tree};
+use crate::model::{live, Field, Impl, Schema, Slot, Stored, Tree};
 use crate::random::Random;
 
 /// What a random schema may do.
@@ -107,11 +107,11 @@ impl Maker<'_> {
                 backing: random.below(9).saturating_sub(4),
                 non_exhaustive: random.below(2),
                 bits: random.below(256),
-                ordinals: ordinals(random),
+                ordinals: live(ordinals(random)),
             },
             3 => Slot::Flags {
                 bytes: random.below(256),
-                bits: ordinals(random),
+                bits: live(ordinals(random)),
             },
             4 => Slot::Union {
                 stored: self.stored(random),
@@ -237,7 +237,7 @@ pub fn ordinals(random: &mut Random) -> Vec<u64> {
 }
 
 /// Near a power of two, where widths change, or near the flags' steps.
-fn ordinal(random: &mut Random) -> u64 {
+pub fn ordinal(random: &mut Random) -> u64 {
     let power = 1u64 << random.below(33);
     let near = power - 1 + random.below(3);
     let plain = random.pick(&[0, 1, 7, 8, 15, 16, 31, 32]);

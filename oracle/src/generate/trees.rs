@@ -91,6 +91,7 @@ pub fn field(random: &mut Random, depth: u32, pool: &Pool) -> Field {
         name: random.below(pool.names),
         encoding: encoding(random),
         tree: tree(random, depth, pool),
+        limit: 0,
     }
 }
 

@@ -7,7 +7,7 @@ mod types;
 
 use std::collections::HashMap;
 
-use crate::format::{DECLARATION_LIMIT, IMAGE_LIMIT, NAME_LIMIT, SLOT_LIMIT, U32_LIMIT};
+use crate::format::{Edition, DECLARATION_LIMIT, IMAGE_LIMIT, NAME_LIMIT, SLOT_LIMIT, U32_LIMIT};
 use crate::ir::{CompiledSchema, ResolvedAnnotations, TypeId, TypeRegistry};
 use crate::smol_str::SmolStr;
 use reader::{Read, Reader};
@@ -17,12 +17,36 @@ use reader::{Read, Reader};
 pub struct Refusal {
     pub number: u64,
     pub place: u64,
+    /// Which number of edition two it is about, if one; no part of the answer.
+    pub added: Option<Added>,
+}
+
+/// A number that edition two alone has.
+#[derive(Debug, Clone, Copy, PartialEq, Eq)]
+pub enum Added {
+    Limit,
+    RetiredCount,
+    /// One of so many.
+    Retired {
+        count: usize,
+    },
+}
+
+impl Added {
+    /// Tells a refusal what it is about.
+    fn refused(self) -> impl Fn(Refusal) -> Refusal {
+        move |refusal| Refusal {
+            added: Some(self),
+            ..refusal
+        }
+    }
 }
 
 /// What an accepted image says.
 #[derive(Debug)]
 pub struct Imported {
-    /// The schema; its `find_table` answers as the image says.
+    /// The schema; its `find_table` answers as the image says. Limits stand in
+    /// the encodings of fields, retired ordinals and bits in the tombstones.
     pub schema: CompiledSchema,
     /// For each name, the slot that it finds.
     pub finds: Vec<Option<u32>>,
@@ -31,11 +55,11 @@ pub struct Imported {
 }
 
 /// Reads an image; the lowest refusal wins.
-pub fn import(image: &[u8]) -> Result<Imported, Refusal> {
+pub fn import(image: &[u8], edition: Edition) -> Result<Imported, Refusal> {
     if image.len() > IMAGE_LIMIT {
         return refuse(1, 0);
     }
-    let imported = read_whole(image)?;
+    let imported = read_whole(image, edition)?;
     check_names(&imported)?;
     if let Some(slot) = loops::newtype_on_loop(&imported.schema.registry) {
         return refuse(8, slot as u64);
@@ -62,12 +86,16 @@ fn write_digits(mut number: u64, digits: &mut [u8]) {
 }
 
 fn refuse<T>(number: u64, place: u64) -> Result<T, Refusal> {
-    Err(Refusal { number, place })
+    Err(Refusal {
+        number,
+        place,
+        added: None,
+    })
 }
 
 /// Refusals 2 to 6: names, slots, declarations, and nothing after them.
-fn read_whole(image: &[u8]) -> Read<Imported> {
-    let mut reader = Reader::new(image);
+fn read_whole(image: &[u8], edition: Edition) -> Read<Imported> {
+    let mut reader = Reader::new(image, edition);
     let finds = read_finds(&mut reader)?;
     let mut registry = TypeRegistry::new();
     let mut starts = Vec::new();

@@ -1,7 +1,7 @@
 //! Numbers of an image, with refusals 2 to 5.
 
 use super::{name_text, refuse, Refusal};
-use crate::format::{read_number, Fault, COUNT_LIMIT, LEVEL_LIMIT, U32_LIMIT};
+use crate::format::{read_number, Edition, Fault, COUNT_LIMIT, LEVEL_LIMIT, U32_LIMIT};
 use crate::smol_str::SmolStr;
 use crate::span::Span;
 
@@ -10,15 +10,17 @@ pub type Read<T> = Result<T, Refusal>;
 /// The image and how far it is read.
 pub struct Reader<'a> {
     image: &'a [u8],
+    pub edition: Edition,
     at: usize,
     /// The text of each name.
     names: Vec<SmolStr>,
 }
 
 impl<'a> Reader<'a> {
-    pub fn new(image: &'a [u8]) -> Self {
+    pub fn new(image: &'a [u8], edition: Edition) -> Self {
         Self {
             image,
+            edition,
             at: 0,
             names: Vec::new(),
         }
@@ -96,8 +98,20 @@ impl<'a> Reader<'a> {
     }
 
     /// A count, then that many items, each told its position.
-    pub fn list<T>(&mut self, mut item: impl FnMut(&mut Self, u32) -> Read<T>) -> Read<Vec<T>> {
-        let count = self.number(COUNT_LIMIT)? as usize;
+    pub fn list<T>(&mut self, item: impl FnMut(&mut Self, u32) -> Read<T>) -> Read<Vec<T>> {
+        let count = self.count()?;
+        self.items(count, item)
+    }
+
+    pub fn count(&mut self) -> Read<usize> {
+        self.number(COUNT_LIMIT).map(|count| count as usize)
+    }
+
+    pub fn items<T>(
+        &mut self,
+        count: usize,
+        mut item: impl FnMut(&mut Self, u32) -> Read<T>,
+    ) -> Read<Vec<T>> {
         // An item has a byte at least, so a false count claims no more room.
         let mut items = Vec::with_capacity(count.min(self.image.len() - self.at));
         for position in 0..count {

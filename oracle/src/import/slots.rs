@@ -1,14 +1,16 @@
 //! Slots of an image.
 
 use super::reader::{Read, Reader};
+use super::Added;
 use crate::ast::{EnumBacking, TypeParam};
 use crate::format::{
-    BACKING_LIMIT, BYTE_LIMIT, SIZE_LIMIT, SLOT_KIND_LIMIT, STORED_LIMIT, U32_LIMIT,
+    Edition, BACKING_LIMIT, BYTE_LIMIT, SIZE_LIMIT, SLOT_KIND_LIMIT, STORED_LIMIT, U32_LIMIT,
 };
 use crate::ir::{
-    ConfigDef, EnumDef, EnumVariantDef, FieldDef, FlagsBitDef, FlagsDef, GenericAliasDef, ImplDef,
-    MessageDef, NewtypeDef, ResolvedAnnotations, ResolvedType, TraitDef, TraitFieldDef, TypeDef,
-    TypeId, TypeRegistry, UnionDef, UnionVariantDef, WireSize, POISON_TYPE_ID,
+    ConfigDef, EnumDef, EnumVariantDef, FieldDef, FieldEncoding, FlagsBitDef, FlagsDef,
+    GenericAliasDef, ImplDef, MessageDef, NewtypeDef, ResolvedAnnotations, ResolvedType,
+    TombstoneDef, TraitDef, TraitFieldDef, TypeDef, TypeId, TypeRegistry, UnionDef,
+    UnionVariantDef, WireSize, POISON_TYPE_ID,
 };
 use crate::smol_str::SmolStr;
 use crate::span::{Span, Spanned};
@@ -73,15 +75,28 @@ impl Reader<'_> {
     }
 
     fn field(&mut self, position: u32) -> Read<FieldDef> {
+        let name = self.name()?;
+        let encoding = self.whole_encoding()?;
+        let resolved_type = self.whole_type()?;
+        let limit = self.limit()?;
         Ok(FieldDef {
-            name: self.name()?,
+            name,
             span: nowhere(),
             ordinal: position,
-            encoding: self.field_encoding()?,
-            resolved_type: self.whole_type()?,
+            encoding: FieldEncoding { encoding, limit },
+            resolved_type,
             annotations: plain(),
             constraint: None,
         })
+    }
+
+    /// The limit after a field's type.
+    fn limit(&mut self) -> Read<Option<u64>> {
+        let limit = match self.edition {
+            Edition::One => 0,
+            Edition::Two => self.number(U32_LIMIT).map_err(Added::Limit.refused())?,
+        };
+        Ok((limit > 0).then_some(limit))
     }
 
     fn enumeration(&mut self) -> Read<TypeDef> {
@@ -90,14 +105,16 @@ impl Reader<'_> {
             non_exhaustive: self.flag()?,
             ..plain()
         };
+        let wire_bits = self.number(BYTE_LIMIT)? as u8;
+        let ordinals = self.ordinals()?;
         Ok(TypeDef::Enum(EnumDef {
             name: unnamed(),
             span: nowhere(),
             backing,
             annotations,
-            wire_bits: self.number(BYTE_LIMIT)? as u8,
-            variants: self.list(|reader, _| reader.enum_variant())?,
-            tombstones: Vec::new(),
+            wire_bits,
+            variants: ordinals.live.into_iter().map(enum_variant).collect(),
+            tombstones: ordinals.retired,
         }))
     }
 
@@ -111,33 +128,37 @@ impl Reader<'_> {
         })
     }
 
-    fn enum_variant(&mut self) -> Read<EnumVariantDef> {
-        Ok(EnumVariantDef {
-            name: unnamed(),
-            span: nowhere(),
-            ordinal: self.id()?,
-            annotations: plain(),
-        })
-    }
-
     fn flags(&mut self) -> Read<TypeDef> {
+        let wire_bytes = self.number(BYTE_LIMIT)? as u8;
+        let ordinals = self.ordinals()?;
         Ok(TypeDef::Flags(FlagsDef {
             name: unnamed(),
             span: nowhere(),
-            wire_bytes: self.number(BYTE_LIMIT)? as u8,
-            bits: self.list(|reader, _| reader.flags_bit())?,
-            tombstones: Vec::new(),
+            wire_bytes,
+            bits: ordinals.live.into_iter().map(flags_bit).collect(),
+            tombstones: ordinals.retired,
             annotations: plain(),
         }))
     }
 
-    fn flags_bit(&mut self) -> Read<FlagsBitDef> {
-        Ok(FlagsBitDef {
-            name: unnamed(),
-            span: nowhere(),
-            bit: self.id()?,
-            annotations: plain(),
+    fn ordinals(&mut self) -> Read<Ordinals> {
+        Ok(Ordinals {
+            live: self.list(|reader, _| reader.id())?,
+            retired: self.retired()?,
         })
+    }
+
+    /// The list after the live one.
+    fn retired(&mut self) -> Read<Vec<TombstoneDef>> {
+        match self.edition {
+            Edition::One => Ok(Vec::new()),
+            Edition::Two => {
+                let count = self.count().map_err(Added::RetiredCount.refused())?;
+                let one = |reader: &mut Self, _| reader.id().map(tombstone);
+                let listed = self.items(count, one);
+                listed.map_err(Added::Retired { count }.refused())
+            }
+        }
     }
 
     fn union(&mut self) -> Read<TypeDef> {
@@ -227,6 +248,40 @@ impl Reader<'_> {
             annotations: plain(),
             span,
         }))
+    }
+}
+
+/// Ordinals of an enum or bits of flags.
+struct Ordinals {
+    live: Vec<u32>,
+    retired: Vec<TombstoneDef>,
+}
+
+fn enum_variant(ordinal: u32) -> EnumVariantDef {
+    EnumVariantDef {
+        name: unnamed(),
+        span: nowhere(),
+        ordinal,
+        annotations: plain(),
+    }
+}
+
+fn flags_bit(bit: u32) -> FlagsBitDef {
+    FlagsBitDef {
+        name: unnamed(),
+        span: nowhere(),
+        bit,
+        annotations: plain(),
+    }
+}
+
+fn tombstone(ordinal: u32) -> TombstoneDef {
+    TombstoneDef {
+        span: nowhere(),
+        ordinal,
+        reason: unnamed(),
+        since: None,
+        original_type: None,
     }
 }
 

@@ -6,7 +6,7 @@ use crate::format::{
     BYTE_LIMIT, ENCODING_LIMIT, EXPRESSION_KIND_LIMIT, PRIMITIVE_LIMIT, SEMANTIC_LIMIT,
     TYPE_KIND_LIMIT,
 };
-use crate::ir::{Encoding, FieldEncoding, ResolvedType, TypeId};
+use crate::ir::{Encoding, ResolvedType, TypeId};
 use crate::smol_str::SmolStr;
 use crate::span::{Span, Spanned};
 
@@ -47,11 +47,8 @@ impl Reader<'_> {
         self.expression_at(1)
     }
 
-    pub fn field_encoding(&mut self) -> Read<FieldEncoding> {
-        Ok(FieldEncoding {
-            encoding: self.encoding_at(1)?,
-            limit: None,
-        })
+    pub fn whole_encoding(&mut self) -> Read<Encoding> {
+        self.encoding_at(1)
     }
 
     fn encoding_at(&mut self, level: u32) -> Read<Encoding> {

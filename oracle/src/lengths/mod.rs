@@ -13,6 +13,7 @@ use std::ops::ControlFlow;
 
 use crate::answer::{Answer, Whole, PROGRAM_PLACES};
 use crate::compare::{each_image, Selection};
+use crate::format::Edition;
 use crate::generate::Families;
 use crate::import::{import, Imported};
 use crate::ir::{CompiledSchema, Encoding, FieldDef, ResolvedType, TypeDef};
@@ -52,12 +53,15 @@ impl Table {
         let mut sizes = vec![0; 3 * slots];
         let verdict = match self {
             Table::Rust => {
-                return match Whole::sizes_of(image).sizes_answer(3 * slots as u64) {
+                return match Whole::sizes_of(image, Edition::One).sizes_answer(3 * slots as u64) {
                     Ok(Answer::Accepted { sizes, .. }) => Some(sizes),
                     _ => None,
                 }
             }
-            Table::Sizes(library) => (library.sizes)(image, &mut sizes),
+            Table::Sizes(library) => {
+                let size = library.sizes.expect("a subject only if there is one");
+                size(image, &mut sizes)
+            }
             Table::Check(library) => {
                 let mut findings = vec![0; PROGRAM_PLACES.findings as usize];
                 let check = library.check.expect("a subject only if there is one");
@@ -75,11 +79,11 @@ pub fn subjects(ours: Option<Library>) -> Vec<Subject> {
         table: Table::Rust,
     }];
     if let Some(ours) = ours {
-        let sizes = Table::Sizes(ours);
-        subjects.push(Subject {
+        let sizes = ours.sizes.map(|_| Table::Sizes(ours));
+        subjects.extend(sizes.map(|table| Subject {
             name: "vexil_sizes",
-            table: sizes,
-        });
+            table,
+        }));
         let check = ours.check.map(|_| Table::Check(ours));
         subjects.extend(check.map(|table| Subject {
             name: "vexil_check",
@@ -142,7 +146,7 @@ pub fn run(count: u64, seed: u64, subjects: &[Subject]) -> Summary {
     let parts = in_parallel(|worker| {
         let mut summary = Summary::of(subjects);
         for number in (worker..count).step_by(THREADS as usize) {
-            let image = schema(seed, number).bytes();
+            let image = schema(seed, number).bytes(Edition::One);
             let flow = run_one(&image, subjects, &mut summary.small);
             if let ControlFlow::Break(broken) = flow {
                 summary.broken = Some(broken);
@@ -153,6 +157,7 @@ pub fn run(count: u64, seed: u64, subjects: &[Subject]) -> Summary {
             count,
             seed,
             families: Families::All,
+            edition: Edition::One,
         };
         each_image(selection, worker, |_, image| {
             if image.len() > MOST_BYTES {
@@ -380,7 +385,7 @@ impl Met {
 
 /// The image as imported, if the Rust accepts it and does not take too long.
 fn accepted(image: &[u8]) -> Option<Imported> {
-    let imported = import(image).ok()?;
+    let imported = import(image, Edition::One).ok()?;
     if imported.starts.len() > MOST_SLOTS {
         return None;
     }

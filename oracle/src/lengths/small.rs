@@ -4,11 +4,12 @@
 
 use super::rules::lengths_of_slots;
 use super::set::Lengths;
+use crate::format::Edition;
 use crate::generate::trees::{encoding, WRAPS};
 use crate::import::import;
 use crate::model::{
-    field, fixed, message, pair, union, wrap, Field, Impl, Schema, Slot, Stored, Tree, BOOL, MAP,
-    RESULT, VEC2,
+    field, fixed, live, message, pair, union, wrap, Field, Impl, Schema, Slot, Stored, Tree, BOOL,
+    MAP, RESULT, VEC2,
 };
 use crate::random::Random;
 
@@ -117,11 +118,11 @@ fn slot_of(random: &mut Random, slot: u64, kinds: &[u64]) -> Slot {
             backing: random.below(10).saturating_sub(7),
             non_exhaustive: u64::from(random.once_in(4)),
             bits: random.below(7),
-            ordinals: numbers(random, 40),
+            ordinals: live(numbers(random, 40)),
         },
         3 => Slot::Flags {
             bytes: random.below(3),
-            bits: numbers(random, 18),
+            bits: live(numbers(random, 18)),
         },
         4 => {
             let variants = random.below(4);
@@ -174,6 +175,7 @@ fn fields(random: &mut Random, named: &[u64]) -> Vec<Field> {
         name: random.below(NAMES),
         encoding: encoding(random),
         tree: tree(random, 3, named),
+        limit: 0,
     };
     (0..count).map(|_| one(random)).collect()
 }
@@ -218,7 +220,7 @@ fn bring_sizes(random: &mut Random, brings: Brings, schema: &mut Schema) {
     }
     let slot = random.below(slots);
     name(random, slot, &mut schema.slots);
-    let Ok(imported) = import(&schema.bytes()) else {
+    let Ok(imported) = import(&schema.bytes(Edition::One), Edition::One) else {
         return;
     };
     let lengths = lengths_of_slots(&imported.schema);

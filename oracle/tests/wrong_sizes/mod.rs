@@ -397,8 +397,8 @@ impl Sizes<'_> {
             _ => {}
         }
         let highest = match self.wrong {
-            Wrong::EnumByCount => (ordinals.len() as u64).saturating_sub(1),
-            _ => ordinals.iter().copied().max().unwrap_or(0),
+            Wrong::EnumByCount => (ordinals.live.len() as u64).saturating_sub(1),
+            _ => ordinals.live.iter().copied().max().unwrap_or(0),
         };
         match backing {
             0 => u64::from(u64::BITS - highest.leading_zeros()).max(1 + 7 * non_exhaustive),
@@ -413,7 +413,7 @@ impl Sizes<'_> {
         if self.is(Wrong::FlagsAlwaysStored) || !self.declared(slot) {
             return *bytes;
         }
-        match bits.iter().max() {
+        match bits.live.iter().max() {
             None | Some(..=7) => 1,
             Some(8..=15) => 2,
             Some(16..=31) => 4,

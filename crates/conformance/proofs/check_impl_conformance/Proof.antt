@@ -7,7 +7,7 @@ use Rattle.conformance.proofs.check_impl_conformance.Statement.{stateme
 use Rattle.conformance.proofs.check_impl_conformance.Tie as tie
 
 abbrev Inv-loop : tie.InvT-loop
-Inv-loop image starts frame findings₀ count slots n₀ i₀ findings n i = Passed (schemaOf image) findings₀ findings count n i
+Inv-loop image starts frame findings₀ count slots n₀ i₀ findings n i = Passed (schemaOf (frame .edition) image) findings₀ findings count n i
 
 abbrev μ-loop : tie.MeasureT-loop
 μ-loop image starts frame findings₀ count slots n₀ i₀ findings n i = slots - i

@@ -12,5 +12,5 @@ looped-in-spec =
     (λ c. search needs)
     (λ c κs. (length-replicate {A = ℕ} 4096 0, c .before .before .before .before .pre))
     (λ c. search needs)
-    (λ c κs. (c .before .before .fill-rows .ensures .long, c .before .before .before .before .before .before .before .pre .few))
-    (λ c. lowest-is _ _ _ _ _ _ _ _ (c .before .before .before .before .before .before .before .before .before .pre .few) (c .before .before .before .before .fill-rows .ensures) (c .before .lowest-on-loop .ensures .0)))
+    (λ c κs. let q = c .before .before .before .before .before .before .before .pre in (c .before .before .fill-rows .ensures (q .0) (q .1) .long, q .1 .few))
+    (λ c ed p. lowest-is _ _ _ _ _ _ _ _ _ (p .few) (c .before .before .before .before .fill-rows .ensures ed p) (c .before .lowest-on-loop .ensures .0)))

@@ -16,4 +16,4 @@ lowest-looped-spec =
     (λ c. search needs)
     (λ c. omega (arith, used-few (c .before .before .before .before .before .before .before .args .sort) _ _ (c .before .before .before .before .names-used .ensures) (c .before .before .before .before .before .before .before .pre .0)))
     (λ c κs. c .before .before .before .before .before .before .before .before .pre .1)
-    (λ c. used-loop _ _ _ _ _ (c .before .before .before .before .before .before .before .before .before .pre .0) (c .before .before .before .before .before .before .before .before .before .args .sort) _ _ _ _ (c .before .before .before .before .before .before .names-used .ensures) (c .before .before .before .before .read-finds .ensures) refl (c .looped-in .ensures)))
+    (λ c ed p. used-loop _ _ _ _ _ (c .before .before .before .before .before .before .before .before .before .pre .0) (c .before .before .before .before .before .before .before .before .before .args .sort) _ _ _ _ (c .before .before .before .before .before .before .names-used .ensures) (c .before .before .before .before .read-finds .ensures) refl (c .looped-in .ensures ed p)))

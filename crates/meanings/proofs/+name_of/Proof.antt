@@ -18,7 +18,7 @@ use Rattle.meanings.proofs.+name_of.{statement}
 use Rattle.meanings.proofs.+name_of.Tie.{close}
 
 abbrev μ-name-of : Measures 4 name-of-kinds.ps ℕ
-μ-name-of κs a = rankAt (a .1 .1 .0 .names) (a .1 .1 .1 .1 .1 .1 .0) (a .0 .now) (a .1 .1 .1 .1 .1 .0) * 64 + a .1 .1 .1 .1 .1 .1 .0
+μ-name-of κs a = rankAt (a .1 .1 .0) (a .1 .1 .1 .1 .1 .1 .0) (a .0 .now) (a .1 .1 .1 .1 .1 .0) * 64 + a .1 .1 .1 .1 .1 .1 .0
 
 abbrev name-of-at : ℕ → In 4 name-of-kinds.ps
 name-of-at t = and 4 name-of-kinds.ps (is 4 name-of-kinds.ps μ-name-of t) name-of.Pre
@@ -90,7 +90,7 @@ name-of-enum-known-list t c = search needs
 name-of-name-of-requires-2 : (t : ℕ) → name-of-lts.Need-name-of-requires-2 (name-of-known t) (name-of-at t) name-of.Post
 name-of-name-of-requires-2 t c κs =
     let x = sym (c .before .before .before .before .before .before .before .before .read-head .ensures) ∙ c .before .before .before .before .before .before .name .given .1 in
-    let w = alias-told _ _ _ (c .before .list .given .1) (c .before .before .before .alias-of .ensures) in
+    let w = alias-told _ _ _ _ (c .before .list .given .1) (c .before .before .before .alias-of .ensures) in
     (omega (arith, c .before .before .before .before .before .before .before .before .before .before .before .before .before .pre .0, target-less _ _ _ _ _ _ _ _ (c .before .before .before .before .before .before .before .before .before .before .before .before .before .pre .1) _ _ x _ _ w), target-asked _ _ _ _ _ _ _ _ (c .before .before .before .before .before .before .before .before .before .before .before .before .before .pre .1) _ _ x _ _ w _ _ refl)
 
 -- src/lib.rt:424:21
@@ -123,11 +123,11 @@ name-of-returns-4 t c = name-sized _ _ _ _ _ _ _ _ (c .before .before .before .b
 
 -- src/lib.rt:399:1
 name-of-returns-5 : (t : ℕ) → name-of-lts.Need-returns-5 (name-of-known t) (name-of-at t) name-of.Post
-name-of-returns-5 t c = name-alias _ _ _ _ _ _ _ _ (c .before .before .before .before .before .before .before .before .before .before .before .before .before .before .before .pre .1) _ _ (sym (c .before .before .before .before .before .before .before .before .before .before .read-head .ensures) ∙ c .before .before .before .before .before .before .before .before .name .given .1) _ _ (alias-told _ _ _ (c .before .before .before .list .given .1) (c .before .before .before .before .before .alias-of .ensures)) _ _ _ (c .before .before .before .before .before .before .name-of .ensures) (c .before .name-of2 .ensures) (c .name-or-unfound .ensures)
+name-of-returns-5 t c = name-alias _ _ _ _ _ _ _ _ (c .before .before .before .before .before .before .before .before .before .before .before .before .before .before .before .pre .1) _ _ (sym (c .before .before .before .before .before .before .before .before .before .before .read-head .ensures) ∙ c .before .before .before .before .before .before .before .before .name .given .1) _ _ (alias-told _ _ _ _ (c .before .before .before .list .given .1) (c .before .before .before .before .before .alias-of .ensures)) _ _ _ (c .before .before .before .before .before .before .name-of .ensures) (c .before .name-of2 .ensures) (c .name-or-unfound .ensures)
 
 -- src/lib.rt:399:1
 name-of-returns-6 : (t : ℕ) → name-of-lts.Need-returns-6 (name-of-known t) (name-of-at t) name-of.Post
-name-of-returns-6 t c = name-none _ _ _ _ _ _ _ _ (c .before .before .before .before .before .before .before .before .before .before .before .before .pre .1) _ _ (sym (c .before .before .before .before .before .before .before .read-head .ensures) ∙ c .before .before .before .before .before .name .given .1) (alias-told _ _ _ (c .enum-told .given .1) (c .before .before .alias-of .ensures))
+name-of-returns-6 t c = name-none _ _ _ _ _ _ _ _ (c .before .before .before .before .before .before .before .before .before .before .before .before .pre .1) _ _ (sym (c .before .before .before .before .before .before .before .read-head .ensures) ∙ c .before .before .before .before .before .name .given .1) (alias-told _ _ _ _ (c .enum-told .given .1) (c .before .before .alias-of .ensures))
 
 -- src/lib.rt:399:1
 name-of-returns-7 : (t : ℕ) → name-of-lts.Need-returns-7 (name-of-known t) (name-of-at t) name-of.Post

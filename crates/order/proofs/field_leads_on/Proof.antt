@@ -1,7 +1,4 @@
-use mathlib.Core.Path.{sym, _∙_}
-use native.Mathlib.Omega.{arith}
-use Rattle.slot.proofs.FourBytes.{short-bytes}
-use Rattle.order.proofs.Leading.{led-short}
+use Rattle.order.proofs.Leading.{led-field}
 use borrow.Author.Needs.{needs}
 use Rattle.order.proofs.field_leads_on.Statement.{statement}
 use Rattle.order.proofs.field_leads_on.Tie as tie
@@ -11,10 +8,6 @@ field-leads-on-spec =
     tie.close
     (tie.spec
     (λ c κs. search needs)
-    (λ c. search needs)
     (λ c κs. search needs)
-    (λ c. omega (arith, short-bytes _ _ _ _ _ _ (sym (c .before .before .before .before .short-field .ensures) ∙ c .before .before .kind .given .1) .long))
-    (λ c. search needs)
     (λ c κs. search needs)
-    (λ c. led-short _ _ _ _ _ _ _ _ (sym (c .before .before .before .before .short-field .ensures) ∙ c .before .before .kind .given .1) (c .leaf-leads-on .ensures))
-    (λ c. search needs))
+    (λ c. led-field _ _ _ _ _ _ _ (c .before .before .field-type-leads-on .ensures) _ _ (c .before .skip-limit .ensures) (c .place-of .ensures)))

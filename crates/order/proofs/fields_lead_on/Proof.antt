@@ -9,7 +9,7 @@ use Rattle.order.proofs.fields_lead_on.Statement.{statement}
 use Rattle.order.proofs.fields_lead_on.Tie as tie
 
 abbrev Inv-loop : tie.InvT-loop
-Inv-loop image starts frame up slot at count first left₀ here₀ left here = Left (leadsOn up (schemaOf image) slot) (frame .names) image left₀ here₀ left here
+Inv-loop image starts frame up slot at count first left₀ here₀ left here = Left (leadsOn up (schemaOf (frame .edition) image) slot) (frame .edition) (frame .names) image left₀ here₀ left here
 
 abbrev μ-loop : tie.MeasureT-loop
 μ-loop image starts frame up slot at count first left₀ here₀ left here = left
@@ -23,11 +23,11 @@ fields-lead-on-spec =
     (λ c κs. search needs)
     (λ c. search needs)
     (λ c. search needs)
-    (λ c. counted-not _ _ _ _ _ _ _ (told (c .before .before .read-below .ensures) (c .enum-told .given .1)))
-    (λ c. left-start _ _ _ _ _)
+    (λ c. counted-not _ _ _ _ _ _ _ _ (told (c .before .before .read-below .ensures) (c .enum-told .given .1)))
+    (λ c. left-start _ _ _ _ _ _)
     (λ c κs. search needs)
-    (λ c. counted-led _ _ _ _ _ _ _ (told (c .before .before .before .before .before .before .before .before .read-below .ensures) (c .before .before .before .before .before .before .count .given .1)) (left-stop _ _ _ _ _ _ _ (c .before .before .before .before .loop .inv) (c .before .before .before .loop-test .taken) _ _ (c .before .before .field-leads-on .ensures) (not-true _ (c .if1 .taken))))
+    (λ c. counted-led _ _ _ _ _ _ _ _ (told (c .before .before .before .before .before .before .before .before .read-below .ensures) (c .before .before .before .before .before .before .count .given .1)) (left-stop _ _ _ _ _ _ _ _ (c .before .before .before .before .loop .inv) (c .before .before .before .loop-test .taken) _ _ (c .before .before .field-leads-on .ensures) (not-true _ (c .if1 .taken))))
     (λ c. omega arith)
     (λ c. omega arith)
-    (λ c. left-on _ _ _ _ _ _ _ (c .before .before .before .before .loop .inv) (c .before .before .before .loop-test .taken) _ _ (c .before .before .field-leads-on .ensures) (not-false _ (c .if1 .left)))
-    (λ c. counted-led _ _ _ _ _ _ _ (told (c .before .before .before .before .before .read-below .ensures) (c .before .before .before .count .given .1)) (left-end _ _ _ _ _ _ _ (c .before .loop .inv) (c .loop-test .left))))
+    (λ c. left-on _ _ _ _ _ _ _ _ (c .before .before .before .before .loop .inv) (c .before .before .before .loop-test .taken) _ _ (c .before .before .field-leads-on .ensures) (not-false _ (c .if1 .left)))
+    (λ c. counted-led _ _ _ _ _ _ _ _ (told (c .before .before .before .before .before .read-below .ensures) (c .before .before .before .count .given .1)) (left-end _ _ _ _ _ _ _ _ (c .before .loop .inv) (c .loop-test .left))))

@@ -6,7 +6,7 @@ use Rattle.order.proofs.goes_one_way.Statement.{statement}
 use Rattle.order.proofs.goes_one_way.Tie as tie
 
 abbrev Inv-loop : tie.InvT-loop
-Inv-loop image starts frame up slots i₀ i = Sofar up (schemaOf image) i
+Inv-loop image starts frame up slots i₀ i = Sofar up (schemaOf (frame .edition) image) i
 
 abbrev μ-loop : tie.MeasureT-loop
 μ-loop image starts frame up slots i₀ i = slots - i

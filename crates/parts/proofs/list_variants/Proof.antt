@@ -11,10 +11,10 @@ use Rattle.parts.proofs.list_variants.Statement.{statement}
 use Rattle.parts.proofs.list_variants.Tie as tie
 
 abbrev Inv-loop : tie.InvT-loop
-Inv-loop image at names parts₀ used count first left₀ here₀ taken₀ parts left here taken = (length parts ≡ length parts₀) × Left (fieldsAt names) variantNames image left₀ here₀ (filled parts₀ taken₀) left here (filled parts taken)
+Inv-loop image at edition names parts₀ used count first left₀ here₀ taken₀ parts left here taken = (length parts ≡ length parts₀) × Left (fieldsAt edition names) variantNames image left₀ here₀ (filled parts₀ taken₀) left here (filled parts taken)
 
 abbrev μ-loop : tie.MeasureT-loop
-μ-loop image at names parts₀ used count first left₀ here₀ taken₀ parts left here taken = left
+μ-loop image at edition names parts₀ used count first left₀ here₀ taken₀ parts left here taken = left
 
 pub list-variants-spec : {M : Type 1} → statement M
 list-variants-spec =

@@ -9,9 +9,9 @@ pub judge-spec : {M : Type 1} → statement M
 judge-spec =
     tie.close
     (tie.spec
-    (λ c κs. located _ _ _ (c .before .before .pre))
-    (λ c κs. let v = c .before .before .before .pre in (few-names _ _ _ v, located _ _ _ v))
-    (λ c κs. let v = c .before .before .before .before .pre in (few-names _ _ _ v, located _ _ _ v))
+    (λ c κs. (_, located _ _ _ (c .before .before .pre)))
+    (λ c κs. let v = c .before .before .before .pre in (few-names _ _ _ v, (_, located _ _ _ v)))
+    (λ c κs. let v = c .before .before .before .before .pre in (few-names _ _ _ v, (_, located _ _ _ v)))
     (λ c κs. search needs)
     (λ c κs. search needs)
     (λ c κs. search needs)

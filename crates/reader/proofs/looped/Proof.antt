@@ -11,7 +11,7 @@ looped-spec =
     tie.close
     (tie.spec
     (λ c κs. search needs)
-    (λ c. let l = c .before .before .before .before .pre .1 in
-    sym (nothing-looped _ _ _ _ (slots-past _ _ _ _) (sym (c .before .none-leads .ensures _ l) ∙ c .if1 .taken)))
+    (λ c ed l.
+    sym (nothing-looped _ _ _ _ (slots-past _ _ _ _ _) (sym (c .before .none-leads .ensures _ _ l) ∙ c .if1 .taken)))
     (λ c κs. search needs)
     (λ c. search needs))

@@ -22,5 +22,5 @@ check-slot-spec =
     (λ c κs. search needs)
     (λ c κs. omega (arith, c .before .before .before .before .before .before .before .count-recursion .ensures .most, c .before .before .before .before .before .before .before .before .before .before .before .before .before .before .before .before .before .before .pre .1))
     (λ c. search needs)
-    (λ c. slot-found _ _ _ _ (c .before .before .before .before .before .before .before .before .before .before .before .before .before .before .before .before .before .before .before .before .before .pre .0 .held) _ _ (c .before .before .before .before .before .before .before .before .before .before .count-recursion .ensures) _ _ (c .before .before .before .before .before .before .before .before .before .before .before .if2 .taken) _ _ _ (part-behind _ _ _ (c .before .before .before .before .before .before .before .before .before .before .before .before .before .before .before .before .before .before .before .before .before .pre .0 .promise) _ (c .before .before .before .before .before .before .before .before .before .before .before .before .before .if1 .left) _ _ (sym (c .before .before .before .before .before .before .before .before .slot-part .ensures) ∙ c .before .before .before .before .before .before .body .given .1)) _ (c .before .before .before .before .finding-at .ensures) _ _ (c .before .before .put-findings .ensures))
+    (λ c. slot-found _ _ _ _ (c .before .before .before .before .before .before .before .before .before .before .before .before .before .before .before .before .before .before .before .before .before .pre .0 .held) _ _ (c .before .before .before .before .before .before .before .before .before .before .count-recursion .ensures) _ _ (c .before .before .before .before .before .before .before .before .before .before .before .if2 .taken) _ _ _ _ _ (part-behind _ _ _ (c .before .before .before .before .before .before .before .before .before .before .before .before .before .before .before .before .before .before .before .before .before .pre .0 .promise) _ (c .before .before .before .before .before .before .before .before .before .before .before .before .before .if1 .left) _ _ (sym (c .before .before .before .before .before .before .before .before .slot-part .ensures) ∙ c .before .before .before .before .before .before .body .given .1)) _ (c .before .before .before .before .finding-at .ensures) _ _ (c .before .before .put-findings .ensures))
     (λ c. slot-not _ _ _ _ (c .before .before .before .before .before .before .before .before .before .before .pre .0 .held) (c .if2 .left)))

@@ -1,15 +1,14 @@
 use borrow.Author.Needs.{needs}
 use native.Mathlib.Omega.{arith}
-use mathlib.Core.Path.{sym, _∙_}
-use Rattle.search.proofs.Searching.{Left, at-start, at-end, field-asked, hit, onward, type-cut}
+use Rattle.search.proofs.Searching.{Left, at-start, at-end, field-asked, hit, onward, field-cut}
 use Rattle.search.proofs.has_field.Statement.{statement}
 use Rattle.search.proofs.has_field.Tie as tie
 
 abbrev Inv-loop : tie.InvT-loop
-Inv-loop image starts frame finds places fields count name expression names left₀ p₀ left p = Left (frame .names) image places fields count name expression left p
+Inv-loop image starts frame finds places fields count name expression edition left₀ p₀ left p = Left frame image places fields count name expression left p
 
 abbrev μ-loop : tie.MeasureT-loop
-μ-loop image starts frame finds places fields count name expression names left₀ p₀ left p = left
+μ-loop image starts frame finds places fields count name expression edition left₀ p₀ left p = left
 
 pub has-field-spec : {M : Type 1} → statement M
 has-field-spec =
@@ -17,15 +16,16 @@ has-field-spec =
     (tie.spec
     Inv-loop
     μ-loop
-    (λ c. at-start _ _ _ _ _ _ _)
+    (λ c. at-start (c .before .before .before .before .args .frame) _ _ _ _ _ _)
     (λ c κs. search needs)
     (λ c κs. field-asked _ _ _ _ _ _ _ _ _ (c .before .before .before .before .before .before .before .pre) _ _ (c .before .if1 .left) (c .before .before .loop .inv) _ (c .field-head .ensures))
     (λ c κs. search needs)
+    (λ c κs. search needs)
     (λ c. search needs)
     (λ c. omega arith)
     (λ c. omega arith)
-    (λ c. onward _ _ _ _ _ _ _ _ _ (c .before .before .before .before .before .before .before .if1 .left) (c .before .before .before .before .before .before .before .before .loop .inv) _ (c .before .before .before .before .before .before .field-head .ensures) _ (c .before .before .before .before .before .is-field .ensures) (c .before .before .before .before .if2 .left) _ (sym (c .before .after .given .1) ∙ c .before .before .before .read-tree .ensures))
+    (λ c. onward (c .before .before .before .before .before .before .before .before .before .before .before .before .before .before .args .frame) _ _ _ _ _ _ _ _ (c .before .before .before .before .before .before .before .before .if1 .left) (c .before .before .before .before .before .before .before .before .before .loop .inv) _ (c .before .before .before .before .before .before .before .field-head .ensures) _ (c .before .before .before .before .before .before .is-field .ensures) (c .before .before .before .before .before .if2 .left) _ _ (c .before .before .before .before .read-tree .ensures) (c .before .before .before .skip-limit .ensures) _ (c .before .after .given .1))
     (λ c. search needs)
-    (λ c. at-end _ _ _ _ _ _ _ _ _ (c .if1 .taken) (c .before .loop .inv))
-    (λ c. hit _ _ _ _ _ _ _ _ _ (c .before .before .before .if1 .left) (c .before .before .before .before .loop .inv) _ (c .before .before .field-head .ensures) _ (c .before .is-field .ensures) (c .if2 .taken))
-    (λ c. type-cut _ _ _ _ _ _ _ _ _ (c .before .before .before .before .before .before .before .if1 .left) (c .before .before .before .before .before .before .before .before .loop .inv) _ (c .before .before .before .before .before .before .field-head .ensures) _ _ _ (sym (c .before .place .given .1) ∙ c .before .before .before .read-tree .ensures)))
+    (λ c. at-end (c .before .before .before .before .before .before .args .frame) _ _ _ _ _ _ _ _ (c .if1 .taken) (c .before .loop .inv))
+    (λ c. hit (c .before .before .before .before .before .before .before .before .before .args .frame) _ _ _ _ _ _ _ _ (c .before .before .before .if1 .left) (c .before .before .before .before .loop .inv) _ (c .before .before .field-head .ensures) _ (c .before .is-field .ensures) (c .if2 .taken))
+    (λ c. field-cut (c .before .before .before .before .before .before .before .before .before .before .before .before .before .before .args .frame) _ _ _ _ _ _ _ _ (c .before .before .before .before .before .before .before .before .if1 .left) (c .before .before .before .before .before .before .before .before .before .loop .inv) _ (c .before .before .before .before .before .before .before .field-head .ensures) _ _ (c .before .before .before .before .read-tree .ensures) (c .before .before .before .skip-limit .ensures) _ _ _ (c .before .place .given .1)))

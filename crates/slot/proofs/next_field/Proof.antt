@@ -1,10 +1,14 @@
-use mathlib.Core.Path.{sym, ap, _∙_}
+use mathlib.Core.Path.{sym, _∙_}
 use native.Mathlib.Omega.{arith}
 use borrow.Author.Needs.{needs}
-use Rattle.number.specs.Answers.{next, follow}
-use Rattle.slot.proofs.FourBytes.{short-bytes, short-reads}
+use Rattle.number.specs.Answers.{follow}
+use Rattle.slot.proofs.FourBytes.{short-bytes, short-next}
 use Rattle.slot.proofs.next_field.Statement.{statement}
 use Rattle.slot.proofs.next_field.Tie as tie
+
+returns : tie.Need-returns
+unfolding follow
+returns c = c .skip-limit .ensures ∙ sym (short-next _ _ _ _ _ _ (sym (c .before .before .before .short-field .ensures) ∙ c .before .enum-told .given .1) _)
 
 returns-2 : tie.Need-returns-2
 unfolding follow
@@ -17,7 +21,8 @@ next-field-spec =
     (λ c κs. search needs)
     (λ c. search needs)
     (λ c. omega (arith, short-bytes _ _ _ _ _ _ (sym (c .before .before .short-field .ensures) ∙ c .enum-told .given .1) .long))
+    (λ c κs. search needs)
     (λ c. search needs)
     (λ c κs. search needs)
-    (λ c. sym (ap next (short-reads _ _ _ _ _ _ (sym (c .before .before .short-field .ensures) ∙ c .enum-told .given .1))))
+    returns
     returns-2)

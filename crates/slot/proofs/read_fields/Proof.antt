@@ -9,10 +9,10 @@ use Rattle.slot.proofs.read_fields.Statement.{statement}
 use Rattle.slot.proofs.read_fields.Tie as tie
 
 abbrev Inv-loop : tie.InvT-loop
-Inv-loop image at count names left₀ p₀ left p = next (read (many count (fieldAt names)) image at) ≡ next (read (many left (fieldAt names)) image p)
+Inv-loop image at edition count names left₀ p₀ left p = next (read (many count (fieldAt edition names)) image at) ≡ next (read (many left (fieldAt edition names)) image p)
 
 abbrev μ-loop : tie.MeasureT-loop
-μ-loop image at count names left₀ p₀ left p = left
+μ-loop image at edition count names left₀ p₀ left p = left
 
 loop-again : tie.Need-loop-again Inv-loop μ-loop
 unfolding follow

@@ -13,5 +13,5 @@ read-slot-spec =
     (λ c. search needs)
     (λ c κs. search needs)
     (λ c. search needs)
-    (λ c. c .read-slot-body .ensures ∙ sym (slot-on _ _ _ _ _ (told (c .before .before .before .before .read-below .ensures) (c .before .before .kind .given .1))))
-    (λ c. sym (slot-refused _ _ _ _ _ (told (c .before .before .before .read-below .ensures) (c .before .r .given .1)))))
+    (λ c. c .read-slot-body .ensures ∙ sym (slot-on _ _ _ _ _ _ (told (c .before .before .before .before .read-below .ensures) (c .before .before .kind .given .1))))
+    (λ c. sym (slot-refused _ _ _ _ _ _ (told (c .before .before .before .read-below .ensures) (c .before .r .given .1)))))

@@ -49,7 +49,7 @@ returns-9 c = rw (c .before .match .keys9) (c .skip-impl .ensures ∙ sym (next-
 
 returns-10 : tie.Need-returns-10
 unfolding slotBodyAt
-returns-10 c = let r = c .match .rest in sym (past-table _ _ (slotTable (c .before .before .args .names)) _ (past 9 _ (past 8 _ (past 7 _ (past 6 _ (past 5 _ (past 4 _ (past 3 _ (past 2 _ (past 1 _ (past 0 _ (omega arith) (λ e. r .0 .0 .0 .0 .0 .0 .0 .0 .1 (inl e))) (r .0 .0 .0 .0 .0 .0 .0 .1)) (r .0 .0 .0 .0 .0 .0 .1)) (r .0 .0 .0 .0 .0 .1)) (r .0 .0 .0 .0 .1)) (r .0 .0 .0 .1)) (λ e. r .0 .0 .0 .0 .0 .0 .0 .0 .1 (inr e))) (r .0 .0 .1)) (r .0 .1)) (r .1)))
+returns-10 c = let r = c .match .rest in sym (past-table _ _ (slotTable (c .before .before .args .edition) (c .before .before .args .names)) _ (past 9 _ (past 8 _ (past 7 _ (past 6 _ (past 5 _ (past 4 _ (past 3 _ (past 2 _ (past 1 _ (past 0 _ (omega arith) (λ e. r .0 .0 .0 .0 .0 .0 .0 .0 .1 (inl e))) (r .0 .0 .0 .0 .0 .0 .0 .1)) (r .0 .0 .0 .0 .0 .0 .1)) (r .0 .0 .0 .0 .0 .1)) (r .0 .0 .0 .0 .1)) (r .0 .0 .0 .1)) (λ e. r .0 .0 .0 .0 .0 .0 .0 .0 .1 (inr e))) (r .0 .0 .1)) (r .0 .1)) (r .1)))
 
 pub read-slot-body-spec : {M : Type 1} → statement M
 read-slot-body-spec =

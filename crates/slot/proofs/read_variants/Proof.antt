@@ -9,10 +9,10 @@ use Rattle.slot.proofs.read_variants.Statement.{statement}
 use Rattle.slot.proofs.read_variants.Tie as tie
 
 abbrev Inv-loop : tie.InvT-loop
-Inv-loop image at count names left₀ p₀ left p = next (read (many count (fieldsAt names)) image at) ≡ next (read (many left (fieldsAt names)) image p)
+Inv-loop image at edition count names left₀ p₀ left p = next (read (many count (fieldsAt edition names)) image at) ≡ next (read (many left (fieldsAt edition names)) image p)
 
 abbrev μ-loop : tie.MeasureT-loop
-μ-loop image at count names left₀ p₀ left p = left
+μ-loop image at edition count names left₀ p₀ left p = left
 
 loop-again : tie.Need-loop-again Inv-loop μ-loop
 unfolding follow

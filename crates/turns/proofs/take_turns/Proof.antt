@@ -8,7 +8,7 @@ use Rattle.turns.proofs.take_turns.Statement.{statement}
 use Rattle.turns.proofs.take_turns.Tie as tie
 
 abbrev Inv-loop : tie.InvT-loop
-Inv-loop image starts frame rows₀ left₀ p₀ rows left p = Going image (schemaOf image) rows₀ rows p left
+Inv-loop image starts frame rows₀ left₀ p₀ rows left p = Going image (schemaOf (frame .edition) image) rows₀ rows p left
 
 abbrev μ-loop : tie.MeasureT-loop
 μ-loop image starts frame rows₀ left₀ p₀ rows left p = left
@@ -26,7 +26,7 @@ take-turn-requires : tie.Need-take-turn-requires Inv-loop μ-loop
 take-turn-requires c κs =
     let turn = c .before .before .before .before .before .before in
     let pre = turn .before .before .before .before .pre in
-    (pre .0, omega (arith, pre .1, turn .loop .inv .long), turn-held _ _ _ _ _ (pre .2) (turn .loop .inv))
+    (pre .0, omega (arith, pre .1, turn .loop .inv .long), turn-held _ _ _ _ _ _ (pre .2) (turn .loop .inv))
 
 enum-told : tie.Need-enum-told Inv-loop μ-loop
 enum-told c = search needs

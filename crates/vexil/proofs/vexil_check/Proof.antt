@@ -1,5 +1,4 @@
 use Rattle.vexil.proofs.Saying.{check-said}
-use Rattle.typeck.specs.declared.Verdict.{Verdict}
 use borrow.Author.Needs.{needs}
 use Rattle.vexil.proofs.vexil_check.Statement.{statement}
 use Rattle.vexil.proofs.vexil_check.Tie as tie
@@ -9,14 +8,7 @@ vexil-check-spec =
     tie.close
     (tie.spec
     (λ c κs. search needs)
-    (λ c. search needs)
     (λ c κs. search needs)
     (λ c. search needs)
     (λ c. search needs)
-    (λ c κs. search needs)
-    (λ c. search needs)
-    (λ c. search needs)
-    (λ c. check-said _ _ _ _ _ _ (Verdict.Accepted _) _ _ (c .before .before .before .before .before .before .before .before .check .ensures) (c .before .before .count .given .1) (c .answered .ensures))
-    (λ c. search needs)
-    (λ c. search needs)
-    (λ c. check-said _ _ _ _ _ _ (Verdict.Refused _ _) _ _ (c .before .before .before .before .before .before .before .before .check .ensures) (c .before .before .number .given .1) (c .answered2 .ensures)))
+    (λ c. check-said _ _ _ _ _ _ _ _ _ (c .before .before .before .before .before .check .ensures) (c .tell-verdict .ensures)))

@@ -1,6 +1,4 @@
-use mathlib.Core.Path.{sym, ap, _∙_}
-use Rattle.table.specs.Fitted.{fitted}
-use Rattle.vexil.specs.Answer.{numberOf, valueOf}
+use Rattle.vexil.proofs.Saying.{read-said}
 use borrow.Author.Needs.{needs}
 use Rattle.vexil.proofs.vexil_read.Statement.{statement}
 use Rattle.vexil.proofs.vexil_read.Tie as tie
@@ -10,22 +8,6 @@ vexil-read-spec =
     tie.close
     (tie.spec
     (λ c κs. search needs)
-    (λ c. search needs)
     (λ c κs. search needs)
     (λ c. search needs)
-    (λ c κs. search needs)
-    (λ c. search needs)
-    (λ c. search needs)
-    (λ c κs. search needs)
-    (λ c. search needs)
-    (λ c.
-    let fitted-in = c .before .before .before .before .before .before in
-    let read = fitted-in .before .before .before .before .read-schema .ensures in
-    let e = sym (c .before .before .answer .given .1) ∙ read .0 in
-    (c .answered .ensures .0 ∙ ap numberOf e, c .answered .ensures .1 ∙ ap valueOf e, fitted-in .fit .ensures ∙ ap (fitted _) (read .1)))
-    (λ c. search needs)
-    (λ c.
-    let fitted-in = c .before .before .before .before .before .before in
-    let read = fitted-in .before .before .before .before .read-schema .ensures in
-    let e = sym (c .before .before .answer2 .given .1) ∙ read .0 in
-    (c .answered2 .ensures .0 ∙ ap numberOf e, c .answered2 .ensures .1 ∙ ap valueOf e, fitted-in .fit .ensures ∙ ap (fitted _) (read .1))))
+    (λ c. read-said _ _ _ _ _ _ _ _ (c .before .before .before .before .read-schema .ensures) (c .before .before .tell-read .ensures)))

@@ -13,5 +13,5 @@ field-type-spec =
     (λ c. search needs)
     (λ c κs. search needs)
     (λ c. search needs)
-    (λ c. λ x end q. code-at _ _ _ _ _ q (at-end _ (c .before .before .before .before .skip-below .ensures) (field-parts _ _ _ _ _ q .nameRead) (c .before .before .p .given .1)) (c .read-coded .ensures))
-    (λ c. λ x end q. absurd (not-stopped _ (c .before .before .before .skip-below .ensures) (field-parts _ _ _ _ _ q .nameRead) (c .before .place .given .1))))
+    (λ c. λ ed x end q. code-at _ _ _ _ _ _ q (at-end _ (c .before .before .before .before .skip-below .ensures) (field-parts _ _ _ _ _ _ q .nameRead) (c .before .before .p .given .1)) (c .read-coded .ensures))
+    (λ c. λ ed x end q. absurd (not-stopped _ (c .before .before .before .skip-below .ensures) (field-parts _ _ _ _ _ _ q .nameRead) (c .before .place .given .1))))

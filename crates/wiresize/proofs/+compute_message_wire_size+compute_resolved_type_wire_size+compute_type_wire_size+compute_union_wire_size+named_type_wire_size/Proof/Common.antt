@@ -1,6 +1,7 @@
 -- The measures of the cycle, and what each member may rely on at its own.
 use Prim.Native.Nat.{ℕ, _<_}
 use borrow.Fn.Kinds.{In}
+use Rattle.reader.specs.Reading.{schemaOf}
 use Rattle.wiresize.proofs.Measure.{typeLeft, nameLeft, fieldLeft, bodyLeft}
 use borrow.Fn.PlainCycle.{Measures, is, falls, and}
 use Rattle.wiresize.proofs.compute_message_wire_size.Reads as compute-message-wire-size
@@ -18,7 +19,7 @@ abbrev pub μ-compute-message-wire-size : Measures 4 compute-message-wire-size-k
 μ-compute-message-wire-size κs a = bodyLeft (a .1 .1 .1 .1 .1 .0 .now)
 
 abbrev pub μ-compute-resolved-type-wire-size : Measures 4 compute-resolved-type-wire-size-kinds.ps ℕ
-μ-compute-resolved-type-wire-size κs a = typeLeft (a .0 .now) (a .1 .1 .0 .names) (a .1 .1 .1 .1 .0) (a .1 .1 .1 .1 .1 .0 .now)
+μ-compute-resolved-type-wire-size κs a = typeLeft (a .0 .now) (a .1 .1 .0) (a .1 .1 .1 .1 .0) (a .1 .1 .1 .1 .1 .0 .now)
 
 abbrev pub μ-compute-type-wire-size : Measures 4 compute-type-wire-size-kinds.ps ℕ
 μ-compute-type-wire-size κs a = fieldLeft (a .1 .1 .1 .1 .1 .0 .now)
@@ -27,7 +28,7 @@ abbrev pub μ-compute-union-wire-size : Measures 4 compute-union-wire-size-kinds
 μ-compute-union-wire-size κs a = bodyLeft (a .1 .1 .1 .1 .1 .0 .now)
 
 abbrev pub μ-named-type-wire-size : Measures 4 named-type-wire-size-kinds.ps ℕ
-μ-named-type-wire-size κs a = nameLeft (a .0 .now) (a .1 .1 .1 .1 .0) (a .1 .1 .1 .1 .1 .0 .now)
+μ-named-type-wire-size κs a = nameLeft (schemaOf (a .1 .1 .0 .edition) (a .0 .now)) (a .1 .1 .1 .1 .0) (a .1 .1 .1 .1 .1 .0 .now)
 
 abbrev pub compute-message-wire-size-at : ℕ → In 4 compute-message-wire-size-kinds.ps
 compute-message-wire-size-at t =

@@ -15,7 +15,7 @@ use Rattle.wiresize.proofs.Fields.{FieldsLeft, fields-start, next-field
 use Rattle.wiresize.proofs.Measure.{field-in-body}
 
 abbrev Inv-loop : compute-message-wire-size-lts.InvT-loop
-Inv-loop image starts frame rows at working count first total₀ here₀ left₀ total here left = FieldsLeft image (frame .names) rows working count first left here total
+Inv-loop image starts frame rows at working count first total₀ here₀ left₀ total here left = FieldsLeft image frame rows working count first left here total
 
 abbrev μ-loop : compute-message-wire-size-lts.MeasureT-loop
 μ-loop image starts frame rows at working count first total₀ here₀ left₀ total here left = left
@@ -40,7 +40,7 @@ module _ (t : ℕ) where
   empty-total-requires c κs = search needs
 
   loop-holds : compute-message-wire-size-lts.Need-loop-holds env (compute-message-wire-size-at t) compute-message-wire-size.Post Inv-loop μ-loop
-  loop-holds c = fields-start _ _ _ _ _ _ _ _ (fields-behind _ _ _ (told (c .before .before .before .before .read-below .ensures) (c .before .before .count .given .1)) (c .before .before .before .before .before .before .before .before .pre .1 .reads)) (c .empty-total .ensures)
+  loop-holds c = fields-start _ _ _ _ _ _ _ _ (fields-behind _ _ _ _ (told (c .before .before .before .before .read-below .ensures) (c .before .before .count .given .1)) (c .before .before .before .before .before .before .before .before .pre .1 .reads)) (c .empty-total .ensures)
 
   compute-type-wire-size-requires : compute-message-wire-size-lts.Need-compute-type-wire-size-requires env (compute-message-wire-size-at t) compute-message-wire-size.Post Inv-loop μ-loop
   compute-type-wire-size-requires c κs =
@@ -59,7 +59,7 @@ module _ (t : ℕ) where
       let field = added .before .before in
       let turn = field .before .before in
       let start = turn .before .before .before in
-      record { worked = λ fs end q st H. field-over _ _ _ _ _ _ (turn .loop .inv) (field .before .loop-test .taken) _ (field .compute-type-wire-size .ensures) (added .add-field .ensures) (c .before .by .given .1) fs end (fields-behind _ _ _ (told (start .before .before .read-below .ensures) (start .count .given .1)) q) st H }
+      record { worked = λ fs end q st H. field-over _ _ _ _ _ _ (turn .loop .inv) (field .before .loop-test .taken) _ (field .compute-type-wire-size .ensures) (added .add-field .ensures) (c .before .by .given .1) fs end (fields-behind _ _ _ _ (told (start .before .before .read-below .ensures) (start .count .given .1)) q) st H }
 
   enum-told-2 : compute-message-wire-size-lts.Need-enum-told-2 env (compute-message-wire-size-at t) compute-message-wire-size.Post Inv-loop μ-loop
   enum-told-2 c = search needs
@@ -80,7 +80,7 @@ module _ (t : ℕ) where
   total-size-requires c κs = search needs
 
   returns-3 : compute-message-wire-size-lts.Need-returns-3 env (compute-message-wire-size-at t) compute-message-wire-size.Post Inv-loop μ-loop
-  returns-3 c = record { worked = λ fs end q st H. fields-sum _ _ _ _ _ _ (c .before .before .loop .inv) (c .before .loop-test .left) fs end (fields-behind _ _ _ (told (c .before .before .before .before .before .before .before .read-below .ensures) (c .before .before .before .before .before .count .given .1)) q) (c .total-size .ensures) st H }
+  returns-3 c = record { worked = λ fs end q st H. fields-sum _ _ _ _ _ _ (c .before .before .loop .inv) (c .before .loop-test .left) fs end (fields-behind _ _ _ _ (told (c .before .before .before .before .before .before .before .read-below .ensures) (c .before .before .before .before .before .count .given .1)) q) (c .total-size .ensures) st H }
 
   pub spec : {M : Type 1} → compute-message-wire-size-lts.Closed env (compute-message-wire-size-at t) compute-message-wire-size.Post M
   spec = compute-message-wire-size-lts.spec env (compute-message-wire-size-at t) compute-message-wire-size.Post Inv-loop μ-loop read-below-requires enum-known-count enum-told returns empty-total-requires loop-holds compute-type-wire-size-requires add-field-requires enum-known-by returns-2 enum-told-2 sub-left loop-less loop-again total-size-requires returns-3

@@ -24,13 +24,13 @@ use Rattle.wiresize.proofs.Variants.{clash, union-none, VariantsLeft, v
 use Rattle.wiresize.proofs.Measure.{field-in-body}
 
 abbrev Inv-loop : compute-union-wire-size-lts.InvT-loop
-Inv-loop image starts frame rows at working count first extremes here₀ over₀ by₀ left fields after total₀ more₀ here over by total more = (over ≡ false) × FieldsLeft image (frame .names) rows working fields after more here total
+Inv-loop image starts frame rows at working count first extremes here₀ over₀ by₀ left fields after total₀ more₀ here over by total more = (over ≡ false) × FieldsLeft image frame rows working fields after more here total
 
 abbrev μ-loop : compute-union-wire-size-lts.MeasureT-loop
 μ-loop image starts frame rows at working count first extremes here₀ over₀ by₀ left fields after total₀ more₀ here over by total more = more
 
 abbrev Inv-variants : compute-union-wire-size-lts.InvT-variants
-Inv-variants image starts frame rows at working count first extremes₀ here₀ over₀ by₀ left₀ extremes here over by left = (over ≡ false) × VariantsLeft image (frame .names) rows working count first left here extremes
+Inv-variants image starts frame rows at working count first extremes₀ here₀ over₀ by₀ left₀ extremes here over by left = (over ≡ false) × VariantsLeft image frame rows working count first left here extremes
 
 abbrev μ-variants : compute-union-wire-size-lts.MeasureT-variants
 μ-variants image starts frame rows at working count first extremes₀ here₀ over₀ by₀ left₀ extremes here over by left = left
@@ -53,11 +53,11 @@ module _ (t : ℕ) where
 
   returns-2 : compute-union-wire-size-lts.Need-returns-2 env (compute-union-wire-size-at t) compute-union-wire-size.Post Inv-loop μ-loop Inv-variants μ-variants
   returns-2 c = record {
-    worked = λ vs end q st H. union-none _ vs (many-length _ _ _ _ vs end (variants-behind _ _ _ (told (c .before .before .before .before .read-below .ensures) (c .before .before .count .given .1)) q) ∙ c .if1 .taken);
+    worked = λ vs end q st H. union-none _ vs (many-length _ _ _ _ vs end (variants-behind _ _ _ _ (told (c .before .before .before .before .read-below .ensures) (c .before .before .count .given .1)) q) ∙ c .if1 .taken);
   }
 
   variants-holds : compute-union-wire-size-lts.Need-variants-holds env (compute-union-wire-size-at t) compute-union-wire-size.Post Inv-loop μ-loop Inv-variants μ-variants
-  variants-holds c = (refl, variants-start _ _ _ _ _ _ _ _ (variants-behind _ _ _ (told (c .before .before .before .before .read-below .ensures) (c .before .before .count .given .1)) (c .before .before .before .before .before .before .before .before .pre .1 .reads)))
+  variants-holds c = (refl, variants-start _ _ _ _ _ _ _ _ (variants-behind _ _ _ _ (told (c .before .before .before .before .read-below .ensures) (c .before .before .count .given .1)) (c .before .before .before .before .before .before .before .before .pre .1 .reads)))
 
   read-below-requires-2 : compute-union-wire-size-lts.Need-read-below-requires-2 env (compute-union-wire-size-at t) compute-union-wire-size.Post Inv-loop μ-loop Inv-variants μ-variants
   read-below-requires-2 c κs = search needs
@@ -128,7 +128,7 @@ module _ (t : ℕ) where
             (λ w.
             ap (λ (o : Operation). Worked.Over o) (w .16)
             ∙ variant-over _ _ _ _ _ _ (c .before .before .variants .inv .1) (w .0 .taken) (told (w .1 .ensures) (w .3 .given .1)) _
-            (field-over _ _ _ _ _ _ (w .6 .inv .1) (w .7 .taken) _ (w .8 .ensures) (w .10 .ensures) (w .12 .given .1)) vs end (variants-behind _ _ _ (told (c .before .before .before .before .before .before .before .read-below .ensures) (c .before .before .before .before .before .count .given .1)) q) st H)
+            (field-over _ _ _ _ _ _ (w .6 .inv .1) (w .7 .taken) _ (w .8 .ensures) (w .10 .ensures) (w .12 .given .1)) vs end (variants-behind _ _ _ _ (told (c .before .before .before .before .before .before .before .read-below .ensures) (c .before .before .before .before .before .count .given .1)) q) st H)
             (c .before .variants-test .came);
       }
 
@@ -140,7 +140,7 @@ module _ (t : ℕ) where
       record {
         worked = λ vs end q st H.
             ⊎-elim
-            (λ w. variants-end _ _ _ _ _ _ (c .before .before .before .variants .inv .1) (pos-of-ne-zero (c .before .before .before .before .if1 .left)) (w .0 .left) (c .tag .ensures) vs end (variants-behind _ _ _ (told (c .before .before .before .before .before .before .before .before .read-below .ensures) (c .before .before .before .before .before .before .count .given .1)) q) st H)
+            (λ w. variants-end _ _ _ _ _ _ (c .before .before .before .variants .inv .1) (pos-of-ne-zero (c .before .before .before .before .if1 .left)) (w .0 .left) (c .tag .ensures) vs end (variants-behind _ _ _ _ (told (c .before .before .before .before .before .before .before .before .read-below .ensures) (c .before .before .before .before .before .before .count .given .1)) q) st H)
             (λ w. absurd (clash refl (sym (w .15)) (c .before .if2 .left)))
             (c .before .before .variants-test .came);
       }

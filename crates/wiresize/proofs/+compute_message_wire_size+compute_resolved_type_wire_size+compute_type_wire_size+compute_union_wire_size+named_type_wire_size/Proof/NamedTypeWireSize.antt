@@ -63,7 +63,7 @@ module _ (t : ℕ) where
   compute-message-wire-size-requires : named-type-wire-size-lts.Need-compute-message-wire-size-requires env (named-type-wire-size-at t) named-type-wire-size.Post
   compute-message-wire-size-requires c κs =
       let m = is-message _ _ _ (c .before .before .before .before .before .before .before .before .before .before .before .before .before .before .before .before .before .before .pre .1 .promise) _ (c .before .before .before .before .before .before .before .before .before .before .before .before .before .if1 .left) _ _ (sym (c .before .before .before .before .before .before .before .slot-part .ensures) ∙ c .before .before .before .before .before .kind .given .1) (c .before .before .before .match3 .keys1) in
-      (omega (arith, body-in-name _ _ _ _ _ (c .before .before .before .before .before .before .before .before .before .before .before .before .before .before .before .before .before .before .pre .1) _ (c .before .before .before .before .before .before .before .before .before .before .before .before .before .if1 .left) (c .before .before .before .before .before .before .before .before .before .before .before .if2 .left), c .before .before .before .before .before .before .before .before .before .before .before .before .before .before .before .before .before .before .pre .0), record { ready = inside-ready _ _ _ _ _ _ (c .before .before .before .before .before .before .before .before .before .before .before .before .before .before .before .before .before .before .pre .1); thing = _; end = _; reads = fields-inside _ _ _ (sym (c .before .before .before .before .before .before .before .slot-part .ensures) ∙ c .before .before .before .before .before .kind .given .1) (c .before .slot-inside .ensures) (c .before .before .before .match3 .keys1) _ _ _ (m .3) })
+      (omega (arith, body-in-name _ _ _ _ _ (c .before .before .before .before .before .before .before .before .before .before .before .before .before .before .before .before .before .before .pre .1) _ (c .before .before .before .before .before .before .before .before .before .before .before .before .before .if1 .left) (c .before .before .before .before .before .before .before .before .before .before .before .if2 .left), c .before .before .before .before .before .before .before .before .before .before .before .before .before .before .before .before .before .before .pre .0), record { ready = inside-ready _ _ _ _ _ _ (c .before .before .before .before .before .before .before .before .before .before .before .before .before .before .before .before .before .before .pre .1); thing = _; end = _; reads = fields-inside _ _ _ (sym (c .before .before .before .before .before .before .before .slot-part .ensures) ∙ c .before .before .before .before .before .kind .given .1) (c .before .slot-inside .ensures) (c .before .before .before .match3 .keys1) _ _ _ _ (m .3) })
 
   array-write-inside-2 : named-type-wire-size-lts.Need-array-write-inside-2 env (named-type-wire-size-at t) named-type-wire-size.Post
   array-write-inside-2 c = omega (arith, c .before .before .before .before .before .before .before .before .before .before .before .before .before .before .before .before .pre .1 .marks, c .before .before .before .before .before .before .before .before .before .before .before .before .before .before .before .before .pre .1 .promise .few, c .before .before .before .before .before .before .before .before .before .before .before .if1 .left)
@@ -74,7 +74,7 @@ module _ (t : ℕ) where
   compute-union-wire-size-requires : named-type-wire-size-lts.Need-compute-union-wire-size-requires env (named-type-wire-size-at t) named-type-wire-size.Post
   compute-union-wire-size-requires c κs =
       let m = is-union _ _ _ (c .before .before .before .before .before .before .before .before .before .before .before .before .before .before .before .before .before .before .pre .1 .promise) _ (c .before .before .before .before .before .before .before .before .before .before .before .before .before .if1 .left) _ _ (sym (c .before .before .before .before .before .before .before .slot-part .ensures) ∙ c .before .before .before .before .before .kind .given .1) (c .before .before .before .match3 .keys2) in
-      (omega (arith, body-in-name _ _ _ _ _ (c .before .before .before .before .before .before .before .before .before .before .before .before .before .before .before .before .before .before .pre .1) _ (c .before .before .before .before .before .before .before .before .before .before .before .before .before .if1 .left) (c .before .before .before .before .before .before .before .before .before .before .before .if2 .left), c .before .before .before .before .before .before .before .before .before .before .before .before .before .before .before .before .before .before .pre .0), record { ready = inside-ready _ _ _ _ _ _ (c .before .before .before .before .before .before .before .before .before .before .before .before .before .before .before .before .before .before .pre .1); thing = _; end = _; reads = variants-inside _ _ _ (sym (c .before .before .before .before .before .before .before .slot-part .ensures) ∙ c .before .before .before .before .before .kind .given .1) (c .before .slot-inside2 .ensures) (c .before .before .before .match3 .keys2) _ _ _ (m .3) })
+      (omega (arith, body-in-name _ _ _ _ _ (c .before .before .before .before .before .before .before .before .before .before .before .before .before .before .before .before .before .before .pre .1) _ (c .before .before .before .before .before .before .before .before .before .before .before .before .before .if1 .left) (c .before .before .before .before .before .before .before .before .before .before .before .if2 .left), c .before .before .before .before .before .before .before .before .before .before .before .before .before .before .before .before .before .before .pre .0), record { ready = inside-ready _ _ _ _ _ _ (c .before .before .before .before .before .before .before .before .before .before .before .before .before .before .before .before .before .before .pre .1); thing = _; end = _; reads = variants-inside _ _ _ (sym (c .before .before .before .before .before .before .before .slot-part .ensures) ∙ c .before .before .before .before .before .kind .given .1) (c .before .slot-inside2 .ensures) (c .before .before .before .match3 .keys2) _ _ _ _ (m .3) })
 
   slot-inside-requires-3 : named-type-wire-size-lts.Need-slot-inside-requires-3 env (named-type-wire-size-at t) named-type-wire-size.Post
   slot-inside-requires-3 c κs = search needs
@@ -87,12 +87,12 @@ module _ (t : ℕ) where
   returns-5 : named-type-wire-size-lts.Need-returns-5 env (named-type-wire-size-at t) named-type-wire-size.Post
   returns-5 c =
       let m = is-message _ _ _ (c .before .before .before .before .before .before .before .before .before .before .before .before .before .before .before .before .before .before .before .pre .1 .promise) _ (c .before .before .before .before .before .before .before .before .before .before .before .before .before .before .if1 .left) _ _ (sym (c .before .before .before .before .before .before .before .before .slot-part .ensures) ∙ c .before .before .before .before .before .before .kind .given .1) (c .before .before .before .before .match3 .keys1) in
-      record { worked = λ st H. name-message _ _ _ _ _ (c .before .before .before .before .before .before .before .before .before .before .before .before .before .before .before .before .before .before .before .pre .1) st H _ (c .before .before .before .before .before .before .before .before .before .before .before .before .before .before .if1 .left) (c .before .before .before .before .before .before .before .before .before .before .before .before .if2 .left) (sym (c .before .before .before .before .before .before .before .before .before .before .before .known-size .ensures) ∙ c .before .before .before .before .before .before .before .before .before .enum-told .given .1) _ (m .2) (c .compute-message-wire-size .ensures .worked _ _ (fields-inside _ _ _ (sym (c .before .before .before .before .before .before .before .before .slot-part .ensures) ∙ c .before .before .before .before .before .before .kind .given .1) (c .before .before .slot-inside .ensures) (c .before .before .before .before .match3 .keys1) _ _ _ (m .3)) st H) }
+      record { worked = λ st H. name-message _ _ _ _ _ (c .before .before .before .before .before .before .before .before .before .before .before .before .before .before .before .before .before .before .before .pre .1) st H _ (c .before .before .before .before .before .before .before .before .before .before .before .before .before .before .if1 .left) (c .before .before .before .before .before .before .before .before .before .before .before .before .if2 .left) (sym (c .before .before .before .before .before .before .before .before .before .before .before .known-size .ensures) ∙ c .before .before .before .before .before .before .before .before .before .enum-told .given .1) _ (m .2) (c .compute-message-wire-size .ensures .worked _ _ (fields-inside _ _ _ (sym (c .before .before .before .before .before .before .before .before .slot-part .ensures) ∙ c .before .before .before .before .before .before .kind .given .1) (c .before .before .slot-inside .ensures) (c .before .before .before .before .match3 .keys1) _ _ _ _ (m .3)) st H) }
 
   returns-6 : named-type-wire-size-lts.Need-returns-6 env (named-type-wire-size-at t) named-type-wire-size.Post
   returns-6 c =
       let m = is-union _ _ _ (c .before .before .before .before .before .before .before .before .before .before .before .before .before .before .before .before .before .before .before .pre .1 .promise) _ (c .before .before .before .before .before .before .before .before .before .before .before .before .before .before .if1 .left) _ _ (sym (c .before .before .before .before .before .before .before .before .slot-part .ensures) ∙ c .before .before .before .before .before .before .kind .given .1) (c .before .before .before .before .match3 .keys2) in
-      record { worked = λ st H. name-union _ _ _ _ _ (c .before .before .before .before .before .before .before .before .before .before .before .before .before .before .before .before .before .before .before .pre .1) st H _ (c .before .before .before .before .before .before .before .before .before .before .before .before .before .before .if1 .left) (c .before .before .before .before .before .before .before .before .before .before .before .before .if2 .left) (sym (c .before .before .before .before .before .before .before .before .before .before .before .known-size .ensures) ∙ c .before .before .before .before .before .before .before .before .before .enum-told .given .1) _ (m .2) (c .compute-union-wire-size .ensures .worked _ _ (variants-inside _ _ _ (sym (c .before .before .before .before .before .before .before .before .slot-part .ensures) ∙ c .before .before .before .before .before .before .kind .given .1) (c .before .before .slot-inside2 .ensures) (c .before .before .before .before .match3 .keys2) _ _ _ (m .3)) st H) }
+      record { worked = λ st H. name-union _ _ _ _ _ (c .before .before .before .before .before .before .before .before .before .before .before .before .before .before .before .before .before .before .before .pre .1) st H _ (c .before .before .before .before .before .before .before .before .before .before .before .before .before .before .if1 .left) (c .before .before .before .before .before .before .before .before .before .before .before .before .if2 .left) (sym (c .before .before .before .before .before .before .before .before .before .before .before .known-size .ensures) ∙ c .before .before .before .before .before .before .before .before .before .enum-told .given .1) _ (m .2) (c .compute-union-wire-size .ensures .worked _ _ (variants-inside _ _ _ (sym (c .before .before .before .before .before .before .before .before .slot-part .ensures) ∙ c .before .before .before .before .before .before .kind .given .1) (c .before .before .slot-inside2 .ensures) (c .before .before .before .before .match3 .keys2) _ _ _ _ (m .3)) st H) }
 
   returns-7 : named-type-wire-size-lts.Need-returns-7 env (named-type-wire-size-at t) named-type-wire-size.Post
   returns-7 c =
