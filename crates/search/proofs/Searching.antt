@@ -73,6 +73,12 @@ module _ (f : Frame) (s places : List ℕ) (h : FieldHead) (name expression : �
   unfolding isField
   name-differs e x end q rt y = sym (simp (ne-eqb (x .fieldName) name (λ z. e (sym q ∙ z))))
 
+  pub of-name : h .name ≡ name → (r : Bool) → IsField f s places h (h .name) expression r → r ≡ false → IsField f s places h name expression false
+  of-name e r j w x end q rt y = sym w ∙ j x end q rt y ∙ ap (λ (n : ℕ). isField x n (meaningIn (schemaOf (f .edition) s) y)) e
+
+  pub is-named : h .name ≡ name → (r : Bool) → IsField f s places h (h .name) expression r → IsField f s places h name expression r
+  is-named e r j x end q rt y = j x end q rt y ∙ ap (λ (n : ℕ). isField x n (meaningIn (schemaOf (f .edition) s) y)) e
+
   module _ (e : h .name ≡ name) (r : Matched) (c : Compares (f .names) (schemaOf (f .edition) s) s places (h .place) expression 32 Expression r) where
     pub type-same : (m n : ℕ) → r ≡ Matched.Same m n → IsField f s places h name expression true
     unfolding isField LookedUp meant

@@ -35,7 +35,7 @@ fn field_head(image: &[u8], at: usize, frame: Frame) -> FieldHead
     }
 }
 
-// Whether a field has the name and the type that the expression means.
+// Whether a field, as one of its own name, has the type that the expression means.
 fn is_field(
     image: &[u8],
     starts: &[usize],
@@ -43,29 +43,24 @@ fn is_field(
     finds: &[u16],
     places: &[u32],
     field: FieldHead,
-    name: u64,
     expression: usize,
 ) -> bool
     requires { ⌜ FieldAsked (now image) (now starts) frame (now finds) (now places) (field .place) expression ⌝ }
-    ensures { λ r. ⌜ IsField frame (now (image .entry)) (now (places .entry)) field name expression r ⌝ }
+    ensures { λ r. ⌜ IsField frame (now (image .entry)) (now (places .entry)) field (field .name) expression r ⌝ }
 {
-    if field.name == name {
-        match matching::types_compatible(
-            image,
-            starts,
-            frame,
-            finds,
-            places,
-            field.place,
-            expression,
-            32,
-            Sort::Expression,
-        ) {
-            Matched::Same(_, after) => true,
-            Matched::Differs => false,
-        }
-    } else {
-        false
+    match matching::types_compatible(
+        image,
+        starts,
+        frame,
+        finds,
+        places,
+        field.place,
+        expression,
+        32,
+        Sort::Expression,
+    ) {
+        Matched::Same(_, after) => true,
+        Matched::Differs => false,
     }
 }
 
@@ -93,9 +88,10 @@ fn has_field(
             break false;
         }
         let field = field_head(image, p, frame);
-        let hit = is_field(image, starts, frame, finds, places, field, name, expression);
-        if hit {
-            break true;
+        if field.name == name {
+            if is_field(image, starts, frame, finds, places, field, expression) {
+                break true;
+            }
         }
         let limited = tree::read_tree(image, field.place, 32, Sort::Resolved, frame.names);
         match slot::skip_limit(image, limited, edition) {

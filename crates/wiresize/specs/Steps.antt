@@ -8,6 +8,7 @@ use Rattle.tree.specs.Encoding.{Encoding, default, varint, zigZag, delta}
 use Rattle.tree.specs.declared.Head.{Head}
 use Rattle.slot.specs.Field.{typeAt, limitAt, fieldAt, Field}
 use Rattle.slot.specs.declared.Edition.{Edition}
+use Rattle.image.specs.declared.Frame.{Frame}
 use Rattle.sizes.specs.declared.Size.{Size}
 use Rattle.sizes.specs.declared.Worked.{Worked}
 use Rattle.sizes.specs.declared.Worked.the-variants.{Sized, Over}
@@ -115,19 +116,23 @@ Codes names s at r =
     (ed : Edition) (x : Field) (end : ℕ) → read (fieldAt ed names) s at ≡ done x end
     → (behind : ℕ) × Coding names s x behind r × (read (limitAt ed) s behind ≡ done (x .limit) end)
 
--- a field up to its limit: its size, whatever names come to; or where its type stands, if that decides
-unfoldable pub Settles : (names : ℕ) → List ℕ → (at : ℕ) → Settled → Type 0
-Settles names s at (Settled.Is w) =
-    (ed : Edition) (x : Field) (end : ℕ) → read (fieldAt ed names) s at ≡ done x end
-    → (read (limitAt ed) s (w .next) ≡ done (x .limit) end) × ((R : Resolver) → w .worked ≡ fieldSize R x)
-Settles names s at (Settled.At p) =
-    (ed : Edition) (x : Field) (end : ℕ) → read (fieldAt ed names) s at ≡ done x end
-    → (behind : ℕ) × (read (typeAt names) s p ≡ done (x .type) behind) × (read (limitAt ed) s behind ≡ done (x .limit) end) × ((R : Resolver) → typeSize R (x .type) ≡ fieldSize R x)
+-- the limit of a field ends at a position
+abbrev pub LimitTo : Frame → List ℕ → (at next : ℕ) → Type 0
+LimitTo f s at next = (l end : ℕ) → read (limitAt (f .edition)) s at ≡ done l end → next ≡ end
+
+-- a field: its size, whatever names come to, and the position after it; or where its type stands, if that decides
+unfoldable pub Settles : Frame → List ℕ → (at : ℕ) → Settled → Type 0
+Settles f s at (Settled.Is w) =
+    (x : Field) (end : ℕ) → read (fieldAt (f .edition) (f .names)) s at ≡ done x end → (w .next ≡ end) × ((R : Resolver) → w .worked ≡ fieldSize R x)
+Settles f s at (Settled.At p) =
+    (x : Field) (end : ℕ) → read (fieldAt (f .edition) (f .names)) s at ≡ done x end
+    → (behind : ℕ) × (read (typeAt (f .names)) s p ≡ done (x .type) behind) × (read (limitAt (f .edition)) s behind ≡ done (x .limit) end)
+    × ((R : Resolver) → typeSize R (x .type) ≡ fieldSize R x)
 
 -- what was worked out up to a limit, and the position after the limit
-pub record PastLimit (ed : Edition) (s : List ℕ) (field r : Walked) : Type 0 where
+pub record PastLimit (f : Frame) (s : List ℕ) (field r : Walked) : Type 0 where
   pub worked : r .worked ≡ field .worked
-  pub next : (l end : ℕ) → read (limitAt ed) s (field .next) ≡ done l end → r .next ≡ end
+  pub next : LimitTo f s (field .next) (r .next)
 
 -- what is made of a part, at the part's end: a size only where the part has one
 pub record Made (part r : Walked) (size : Worked → Worked) : Type 0 where

@@ -5,7 +5,6 @@ use number::Ranged;
 use sizes::Operation;
 use sizes::Size;
 use sizes::Worked;
-use slot::Edition;
 use slot::Short;
 use total::Step;
 use tree::Head;
@@ -21,10 +20,11 @@ ghost use Rattle.tree.specs.TreeAt.{headAt, shape};
 ghost use Rattle.slot.specs.Field.{typeAt, fieldAt, fieldsAt};
 ghost use Rattle.slot.specs.Short.{shortAt};
 ghost use Rattle.slot.specs.declared.Short.{Short};
+ghost use Rattle.image.specs.declared.Frame.{Frame};
 ghost use Rattle.reader.specs.Reading.{schemaOf};
 ghost use Rattle.reader.specs.Promise.{Promise};
 ghost use Rattle.sizes.specs.Sizes.{typeSize, fieldSize, fieldsSize, unionSize, varintEnd, zigZagEnd};
-ghost use Rattle.wiresize.specs.Steps.{codedAs, kindIn, numberIn, Passed, Decides, Codes, Settles, PastLimit, Wraps, Results, Arrays, Closes, turnedAs};
+ghost use Rattle.wiresize.specs.Steps.{codedAs, kindIn, numberIn, Passed, Decides, Codes, Settles, LimitTo, PastLimit, Wraps, Results, Arrays, Closes, turnedAs};
 ghost use Rattle.wiresize.specs.Rows.{rowAt};
 ghost use Rattle.wiresize.specs.Asked.{Asked, Ready, Walks, WorksOut, Names, Held, Owns};
 
@@ -41,7 +41,7 @@ pub enum Coded {
     ZigZag(usize),
 }
 
-// What is known of a field before names are: its size, where Varint or ZigZag governs it or it holds nothing but a number;
+// What is known of a field before names are: its size and the position after the field, where Varint or ZigZag governs it or it holds nothing but a number;
 // else where its type stands.
 pub enum Settled {
     Is(Walked),
@@ -180,13 +180,29 @@ fn field_type(image: &[u8], at: usize, names: u64) -> Coded
     }
 }
 
-fn settle_long(image: &[u8], at: usize, names: u64) -> Settled
-    ensures { λ r. ⌜ Settles names (now (image .entry)) at r ⌝ }
+// A field's limit stands behind its type; what is worked out does not depend on it.
+fn pass_limit(image: &[u8], field: Walked, frame: Frame) -> Walked
+    ensures { λ r. ⌜ PastLimit frame (now (image .entry)) field r ⌝ }
 {
-    match field_type(image, at, names) {
+    let edition = frame.edition;
+    let worked = field.worked;
+    let next = view::place_of(slot::skip_limit(image, Next::At(field.next), edition));
+    Walked { worked, next }
+}
+
+fn settle_long(image: &[u8], at: usize, frame: Frame) -> Settled
+    ensures { λ r. ⌜ Settles frame (now (image .entry)) at r ⌝ }
+{
+    match field_type(image, at, frame.names) {
         Coded::Plain(p) => Settled::At(p),
-        Coded::Varint(p) => Settled::Is(varint_type(image, p, names)),
-        Coded::ZigZag(p) => Settled::Is(zigzag_type(image, p, names)),
+        Coded::Varint(p) => {
+            let field = varint_type(image, p, frame.names);
+            Settled::Is(pass_limit(image, field, frame))
+        }
+        Coded::ZigZag(p) => {
+            let field = zigzag_type(image, p, frame.names);
+            Settled::Is(pass_limit(image, field, frame))
+        }
     }
 }
 
@@ -199,9 +215,9 @@ fn sized(size: Size, next: usize) -> Settled
     })
 }
 
-// A field of four bytes before its limit, by them. A name is still to be worked out.
+// A field of four bytes and its limit, by those bytes. A name is still to be worked out.
 fn settle_short(place: usize, next: usize, encoding: u64, kind: u64, number: u64) -> Settled
-    ensures { λ r. ⌜ ((names : ℕ) (s : List ℕ) (at : ℕ) → place ≡ at + 2 → next ≡ at + 4 → shortAt names s at ≡ Short.Is encoding kind number → Settles names s at r) ⌝ }
+    ensures { λ r. ⌜ ((f : Frame) (s : List ℕ) (at : ℕ) → place ≡ at + 2 → LimitTo f s (at + 4) next → shortAt (f .names) s at ≡ Short.Is encoding kind number → Settles f s at r) ⌝ }
 {
     match encoding {
         0 => match kind {
@@ -213,24 +229,17 @@ fn settle_short(place: usize, next: usize, encoding: u64, kind: u64, number: u64
     }
 }
 
-fn settle(image: &[u8], at: usize, names: u64) -> Settled
-    ensures { λ r. ⌜ Settles names (now (image .entry)) at r ⌝ }
+fn settle(image: &[u8], at: usize, frame: Frame) -> Settled
+    ensures { λ r. ⌜ Settles frame (now (image .entry)) at r ⌝ }
 {
-    match slot::short_field(image, at, names) {
+    let edition = frame.edition;
+    match slot::short_field(image, at, frame.names) {
         Short::Is(encoding, kind, number) => {
-            settle_short(at + 2, at + 4, encoding, kind, number)
+            let next = view::place_of(slot::skip_limit(image, Next::At(at + 4), edition));
+            settle_short(at + 2, next, encoding, kind, number)
         }
-        Short::Other => settle_long(image, at, names),
+        Short::Other => settle_long(image, at, frame),
     }
-}
-
-// A field's limit stands behind its type; what is worked out does not depend on it.
-fn pass_limit(image: &[u8], field: Walked, edition: Edition) -> Walked
-    ensures { λ r. ⌜ PastLimit edition (now (image .entry)) field r ⌝ }
-{
-    let worked = field.worked;
-    let next = view::place_of(slot::skip_limit(image, Next::At(field.next), edition));
-    Walked { worked, next }
 }
 
 // What the table says of a slot: nothing of a message or union that has no stored size yet, nor of other slots.
@@ -440,12 +449,11 @@ fn compute_type_wire_size(
     requires { ⌜ Asked (fieldAt (frame .edition) (frame .names)) (now image) (now starts) frame (now rows) (now working) at ⌝ }
     ensures { λ r. ⌜ Walks (fieldAt (frame .edition) (frame .names)) fieldSize (now (image .entry)) frame (now (rows .entry)) (now (working .entry)) at r ⌝ }
 {
-    let edition = frame.edition;
-    match settle(image, at, frame.names) {
-        Settled::Is(field) => pass_limit(image, field, edition),
+    match settle(image, at, frame) {
+        Settled::Is(field) => field,
         Settled::At(p) => {
             let field = compute_resolved_type_wire_size(image, starts, frame, rows, p, working);
-            pass_limit(image, field, edition)
+            pass_limit(image, field, frame)
         }
     }
 }

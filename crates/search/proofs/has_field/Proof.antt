@@ -1,6 +1,9 @@
 use borrow.Author.Needs.{needs}
 use native.Mathlib.Omega.{arith}
-use Rattle.search.proofs.Searching.{Left, at-start, at-end, field-asked, hit, onward, field-cut}
+use Rattle.search.proofs.Searching.{of-name, is-named, name-differs, Left, at-start, at-end, field-asked, hit, onward, field-cut}
+use mathlib.Core.Bool.{false}
+use mathlib.Core.Logic.{⊎-elim}
+use mathlib.Core.Path.{refl}
 use Rattle.search.proofs.has_field.Statement.{statement}
 use Rattle.search.proofs.has_field.Tie as tie
 
@@ -18,14 +21,19 @@ has-field-spec =
     μ-loop
     (λ c. at-start (c .before .before .before .before .args .frame) _ _ _ _ _ _)
     (λ c κs. search needs)
-    (λ c κs. field-asked _ _ _ _ _ _ _ _ _ (c .before .before .before .before .before .before .before .pre) _ _ (c .before .if1 .left) (c .before .before .loop .inv) _ (c .field-head .ensures))
+    (λ c κs. field-asked _ _ _ _ _ _ _ _ _ (c .before .before .before .before .before .before .before .before .before .pre) _ _ (c .before .before .before .if1 .left) (c .before .before .before .before .loop .inv) _ (c .before .before .field-head .ensures))
     (λ c κs. search needs)
     (λ c κs. search needs)
     (λ c. search needs)
     (λ c. omega arith)
     (λ c. omega arith)
-    (λ c. onward (c .before .before .before .before .before .before .before .before .before .before .before .before .before .before .args .frame) _ _ _ _ _ _ _ _ (c .before .before .before .before .before .before .before .before .if1 .left) (c .before .before .before .before .before .before .before .before .before .loop .inv) _ (c .before .before .before .before .before .before .before .field-head .ensures) _ (c .before .before .before .before .before .before .is-field .ensures) (c .before .before .before .before .before .if2 .left) _ _ (c .before .before .before .before .read-tree .ensures) (c .before .before .before .skip-limit .ensures) _ (c .before .after .given .1))
+    (λ c.
+    let frame = c .before .before .before .before .before .before .before .before .before .before .before .before .before .before .args .frame in
+    let missed = ⊎-elim (λ h. of-name frame _ _ _ _ _ (h .0 .taken) _ (h .1 .ensures) (h .2 .left)) (λ h. name-differs frame _ _ _ _ _ (h .left)) (c .before .before .before .before .before .if2 .came) in
+    onward frame _ _ _ _ _ _ _ _ (c .before .before .before .before .before .before .before .before .if1 .left) (c .before .before .before .before .before .before .before .before .before .loop .inv) _ (c .before .before .before .before .before .before .before .field-head .ensures) false missed refl _ _ (c .before .before .before .before .read-tree .ensures) (c .before .before .before .skip-limit .ensures) _ (c .before .after .given .1))
     (λ c. search needs)
     (λ c. at-end (c .before .before .before .before .before .before .args .frame) _ _ _ _ _ _ _ _ (c .if1 .taken) (c .before .loop .inv))
-    (λ c. hit (c .before .before .before .before .before .before .before .before .before .args .frame) _ _ _ _ _ _ _ _ (c .before .before .before .if1 .left) (c .before .before .before .before .loop .inv) _ (c .before .before .field-head .ensures) _ (c .before .is-field .ensures) (c .if2 .taken))
+    (λ c.
+    let frame = c .before .before .before .before .before .before .before .before .before .before .before .args .frame in
+    hit frame _ _ _ _ _ _ _ _ (c .before .before .before .before .before .if1 .left) (c .before .before .before .before .before .before .loop .inv) _ (c .before .before .before .before .field-head .ensures) _ (is-named frame _ _ _ _ _ (c .before .before .if2 .taken) _ (c .before .is-field .ensures)) (c .if3 .taken))
     (λ c. field-cut (c .before .before .before .before .before .before .before .before .before .before .before .before .before .before .args .frame) _ _ _ _ _ _ _ _ (c .before .before .before .before .before .before .before .before .if1 .left) (c .before .before .before .before .before .before .before .before .before .loop .inv) _ (c .before .before .before .before .before .before .before .field-head .ensures) _ _ (c .before .before .before .before .read-tree .ensures) (c .before .before .before .skip-limit .ensures) _ _ _ (c .before .place .given .1)))

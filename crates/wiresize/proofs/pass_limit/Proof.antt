@@ -1,14 +1,15 @@
 use Rattle.number.specs.Answers.{follow}
-use Rattle.wiresize.proofs.Settling.{past-limit}
+use Rattle.wiresize.proofs.Settling.{limit-to}
 use borrow.Author.Needs.{needs}
-use mathlib.Core.Path.{ap, _∙_}
+use mathlib.Core.Path.{refl, ap, _∙_}
 use Rattle.view.specs.Take.{placeOf}
 use Rattle.wiresize.proofs.pass_limit.Statement.{statement}
 use Rattle.wiresize.proofs.pass_limit.Tie as tie
 
 returns : tie.Need-returns
 unfolding follow
-returns c = past-limit _ _ _ _ (c .place-of .ensures ∙ ap placeOf (c .before .skip-limit .ensures))
+returns c =
+    record { worked = refl; next = limit-to (c .before .before .before .args .frame) _ _ _ (c .place-of .ensures ∙ ap placeOf (c .before .skip-limit .ensures)) }
 
 pub pass-limit-spec : {M : Type 1} → statement M
 pass-limit-spec = tie.close (tie.spec (λ c κs. search needs) (λ c κs. search needs) returns)

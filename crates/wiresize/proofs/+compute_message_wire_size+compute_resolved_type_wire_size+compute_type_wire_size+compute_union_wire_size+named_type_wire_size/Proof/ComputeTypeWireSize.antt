@@ -14,7 +14,7 @@ use Rattle.wiresize.proofs.Measure.{type-in-field}
 
 module _ (t : ℕ) where
   abbrev env : compute-type-wire-size-lts.Claims
-  env = (settle-reads.Asked, settle-reads.Learnt, pass-limit-reads.Asked, pass-limit-reads.Learnt, compute-resolved-type-wire-size-below t, compute-resolved-type-wire-size.Post)
+  env = (settle-reads.Asked, settle-reads.Learnt, compute-resolved-type-wire-size-below t, compute-resolved-type-wire-size.Post, pass-limit-reads.Asked, pass-limit-reads.Learnt)
 
   settle-requires : compute-type-wire-size-lts.Need-settle-requires env (compute-type-wire-size-at t) compute-type-wire-size.Post
   settle-requires c κs = search needs
@@ -31,29 +31,23 @@ module _ (t : ℕ) where
   compute-resolved-type-wire-size-requires : compute-type-wire-size-lts.Need-compute-resolved-type-wire-size-requires env (compute-type-wire-size-at t) compute-type-wire-size.Post
   compute-resolved-type-wire-size-requires c κs =
       let a = c .before .before .before .before .before .before .before .pre .1 in
-      let k = at-settled _ _ _ _ (c .before .before .before .settle .ensures) _ (c .before .p .given .1) _ (a .thing) (a .end) (a .reads) in
+      let k = at-settled _ _ _ _ (c .before .before .before .settle .ensures) _ (c .before .p .given .1) (a .thing) (a .end) (a .reads) in
       (omega (arith, type-in-field _ _ _ _ _ (a .ready) (c .before .p .given .0 .0), c .before .before .before .before .before .before .before .pre .0), record { ready = a .ready; thing = a .thing .type; end = k .0; reads = k .1 })
-
-  pass-limit-requires-2 : compute-type-wire-size-lts.Need-pass-limit-requires-2 env (compute-type-wire-size-at t) compute-type-wire-size.Post
-  pass-limit-requires-2 c κs = search needs
 
   returns : compute-type-wire-size-lts.Need-returns env (compute-type-wire-size-at t) compute-type-wire-size.Post
   returns c =
-      let k = is-settled _ _ _ _ (c .before .before .before .before .settle .ensures) _ (c .before .before .field .given .1) in
-      record {
-        next = λ x end q z e. c .pass-limit .ensures .next _ _ (k _ x end q .0);
-        works = record { worked = λ x end q st H. c .pass-limit .ensures .worked ∙ k _ x end q .1 _ };
-      }
+      let k = is-settled _ _ _ _ (c .before .before .before .settle .ensures) _ (c .before .field .given .1) in
+      record { next = λ x end q z e. k x end q .0; works = record { worked = λ x end q st H. k x end q .1 _ } }
 
   returns-2 : compute-type-wire-size-lts.Need-returns-2 env (compute-type-wire-size-at t) compute-type-wire-size.Post
   returns-2 c =
       let k = at-settled _ _ _ _ (c .before .before .before .before .before .settle .ensures) _ (c .before .before .before .p .given .1) in
       let w = c .before .compute-resolved-type-wire-size .ensures in
-      let past = c .pass-limit2 .ensures in
+      let past = c .pass-limit .ensures in
       record {
-        next = λ x end q z e. past .next _ _ (at-place _ _ (k _ x end q .2) (w .next _ _ (k _ x end q .1) z (sym (past .worked) ∙ e)));
-        works = record { worked = λ x end q st H. past .worked ∙ w .works .worked _ _ (k _ x end q .1) st H ∙ k _ x end q .3 _ };
+        next = λ x end q z e. past .next _ _ (at-place _ _ (k x end q .2) (w .next _ _ (k x end q .1) z (sym (past .worked) ∙ e)));
+        works = record { worked = λ x end q st H. past .worked ∙ w .works .worked _ _ (k x end q .1) st H ∙ k x end q .3 _ };
       }
 
   pub spec : {M : Type 1} → compute-type-wire-size-lts.Closed env (compute-type-wire-size-at t) compute-type-wire-size.Post M
-  spec = compute-type-wire-size-lts.spec env (compute-type-wire-size-at t) compute-type-wire-size.Post settle-requires enum-known-field pass-limit-requires enum-known-p compute-resolved-type-wire-size-requires pass-limit-requires-2 returns returns-2
+  spec = compute-type-wire-size-lts.spec env (compute-type-wire-size-at t) compute-type-wire-size.Post settle-requires enum-known-field enum-known-p compute-resolved-type-wire-size-requires pass-limit-requires returns returns-2
