@@ -47,7 +47,8 @@ enum vexil_number {
     VEXIL_REFUSED_SIZES = 10,    /* 0. The size table has under 3 places a slot */
     VEXIL_REFUSED_SUM = 11,      /* the declared slot. A sum is the first step of its size above 2^63 - 1 bits */
     VEXIL_REFUSED_FINDINGS = 12, /* 0. The findings table has under 6 places a finding */
-    VEXIL_REFUSED_PRODUCT = 14   /* the declared slot. A product is the first such step: mostly a mistyped array count */
+    VEXIL_REFUSED_PRODUCT = 14,  /* the declared slot. A product is the first such step: mostly a mistyped array count */
+    VEXIL_REFUSED_STORED = 15    /* the lowest such slot. A message or union stores a size: head board only, tested before 10 */
 };
 
 /* A slot's row of the size table, sizes[3 * slot] on: a kind and two numbers. A slot that the image does not declare shows what
@@ -97,6 +98,16 @@ struct vexil_answer vexil_check(const uint8_t *image, size_t image_length, uint6
 
 struct vexil_answer vexil_check_two(const uint8_t *image, size_t image_length, uint64_t *sizes, size_t sizes_length,
                                     uint32_t *findings, size_t findings_length);
+
+/* The whole check for the byte-aligned head board, called and answered likewise. There every field of a message or variant starts on
+ * a whole byte: its smallest and largest are rounded up to a multiple of 8 before they are added, which counts as a sum for refusal
+ * 11. No size becomes fixed by it: 1..2 bits become 8..8. A message or union that stores a size is refused by 15, declared or not.
+ * The findings are the same. */
+struct vexil_answer vexil_check_aligned(const uint8_t *image, size_t image_length, uint64_t *sizes, size_t sizes_length,
+                                        uint32_t *findings, size_t findings_length);
+
+struct vexil_answer vexil_check_aligned_two(const uint8_t *image, size_t image_length, uint64_t *sizes, size_t sizes_length,
+                                            uint32_t *findings, size_t findings_length);
 
 /* Sizes alone, of edition one, never refusal 12. Counts nothing: the value of an accepted image is 0. The table is that of vexil_check. */
 struct vexil_answer vexil_sizes(const uint8_t *image, size_t image_length, uint64_t *sizes, size_t sizes_length);

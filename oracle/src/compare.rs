@@ -4,7 +4,7 @@ use std::ops::ControlFlow;
 use std::sync::atomic::{AtomicU64, Ordering};
 
 use crate::answer::{Answer, Whole, PROGRAM_PLACES};
-use crate::format::Edition;
+use crate::format::{Edition, Entry, Layout};
 use crate::generate::{batch, Families};
 use crate::library::{calls, expected, Call, Library, Reply};
 use crate::shrink::shrink;
@@ -17,8 +17,8 @@ pub struct Selection {
     pub count: u64,
     pub seed: u64,
     pub families: Families,
-    /// How the images are to be read.
-    pub edition: Edition,
+    /// How the images are to be read and answered.
+    pub entry: Entry,
 }
 
 /// An image, as small as could be found, and a call that answers it wrongly.
@@ -57,8 +57,8 @@ impl Outcome {
 
     /// What a run over all families has too few of. Refusal 10 takes shorter
     /// tables than the program's, so it is looked for among the calls.
-    pub fn below_floor(&self, edition: Edition) -> Vec<String> {
-        let mut few = self.tally.below_floor(edition);
+    pub fn below_floor(&self, entry: Entry) -> Vec<String> {
+        let mut few = self.tally.below_floor(entry);
         if self.calls[10] == 0 {
             few.push("calls answered 10: 0, not 1".into());
         }
@@ -111,10 +111,10 @@ pub fn each_image(
         let Selection {
             seed,
             families,
-            edition,
+            entry,
             ..
         } = selection;
-        batch(seed, number, families, edition, |family, image| {
+        batch(seed, number, families, entry, |family, image| {
             if left > 0 {
                 left -= 1;
                 if visit(family, image).is_break() {
@@ -126,9 +126,9 @@ pub fn each_image(
     }
 }
 
-/// Compares a library with the Rust on generated images of its edition.
+/// Compares a library with the Rust on generated images for it.
 pub fn compare(selection: Selection, ours: Library) -> Outcome {
-    assert_eq!(selection.edition, ours.edition, "images and library");
+    assert_eq!(selection.entry, ours.entry, "images and library");
     let lowest = AtomicU64::new(u64::MAX);
     let outcomes = in_parallel(|worker| {
         let mut pair = Pair::new(ours, worker, &lowest);
@@ -138,40 +138,65 @@ pub fn compare(selection: Selection, ours: Library) -> Outcome {
     joined(outcomes, selection.count)
 }
 
-/// Images that stop where edition two adds a number: the limit of a message
-/// field and of a variant field, the retired count of an enum and of flags, and
-/// a retired ordinal.
-const BEFORE_ADDED: [&[u8]; 5] = [
-    &[1, 0, 1, 1, 0, 0, 0, 1, 0, 0, 0, 1],
-    &[1, 0, 1, 4, 0, 1, 1, 0, 0, 0, 1],
-    &[0, 1, 2, 0, 0, 0, 0],
-    &[0, 1, 3, 0, 1, 4],
-    &[0, 1, 2, 0, 0, 0, 0, 1],
+/// Images with a gap: what stands before it and after it.
+#[derive(Clone, Copy)]
+struct Gap {
+    before: &'static [u8],
+    after: &'static [u8],
+}
+
+/// Where edition two adds a number: the limit of a message field and of a
+/// variant field, the retired count of an enum and of flags, and a retired
+/// ordinal.
+const ADDED: [Gap; 5] = [
+    ending_at(&[1, 0, 1, 1, 0, 0, 0, 1, 0, 0, 0, 1]),
+    ending_at(&[1, 0, 1, 4, 0, 1, 1, 0, 0, 0, 1]),
+    ending_at(&[0, 1, 2, 0, 0, 0, 0]),
+    ending_at(&[0, 1, 3, 0, 1, 4]),
+    ending_at(&[0, 1, 2, 0, 0, 0, 0, 1]),
 ];
 
-/// Compares on all images of up to `bytes` bytes, in edition two also on all of
-/// a byte less after such as stop where a number is added; the family does not
-/// count.
+/// What bears on the head board, the slot being declared: the size that a
+/// message or a union brings, up to its last number, and the type of a message
+/// field, of edition one and with a limit of 0.
+const ALIGNED: [Gap; 4] = [
+    around(&[0, 1, 1, 0, 0], &[0, 0, 1, 0]),
+    around(&[0, 1, 4], &[0, 0, 1, 0]),
+    around(&[1, 0, 1, 1, 0, 0, 0, 1, 0, 0], &[1, 0]),
+    around(&[1, 0, 1, 1, 0, 0, 0, 1, 0, 0], &[0, 1, 0]),
+];
+
+const fn ending_at(before: &'static [u8]) -> Gap {
+    around(before, &[])
+}
+
+const fn around(before: &'static [u8], after: &'static [u8]) -> Gap {
+    Gap { before, after }
+}
+
+/// Compares on all images of up to `bytes` bytes, on all that have as many in a
+/// gap that bears on the head board, and on all that have a byte less where
+/// edition two adds a number; the family does not count.
 pub fn exhaustive(bytes: usize, ours: Library) -> Outcome {
-    let mut beginnings: Vec<(&[u8], usize)> = vec![(&[], bytes)];
-    if ours.edition == Edition::Two {
-        beginnings.extend(BEFORE_ADDED.map(|before| (before, bytes.saturating_sub(1))));
+    let mut gaps = vec![(ending_at(&[]), bytes)];
+    if ours.entry.edition == Edition::Two {
+        gaps.extend(ADDED.map(|gap| (gap, bytes.saturating_sub(1))));
+    }
+    if ours.entry.layout == Layout::Aligned {
+        gaps.extend(ALIGNED.map(|gap| (gap, bytes)));
     }
     let lowest = AtomicU64::new(u64::MAX);
     let outcomes = in_parallel(|worker| {
         let mut pair = Pair::new(ours, worker, &lowest);
-        for &(before, bytes) in &beginnings {
-            if pair.run_all(before, bytes, worker).is_break() {
+        for &(gap, bytes) in &gaps {
+            if pair.run_all(gap, bytes, worker).is_break() {
                 break;
             }
         }
         pair.outcome
     });
     let images = |bytes: usize| (0..=bytes).map(|length| 256u64.pow(length as u32));
-    let asked = beginnings
-        .iter()
-        .flat_map(|&(_, bytes)| images(bytes))
-        .sum();
+    let asked = gaps.iter().flat_map(|&(_, bytes)| images(bytes)).sum();
     joined(outcomes, asked)
 }
 
@@ -205,20 +230,22 @@ impl<'a> Pair<'a> {
         }
     }
 
-    /// Runs over this worker's share of the images that begin so and have up to
-    /// so many bytes more.
-    fn run_all(&mut self, before: &[u8], bytes: usize, worker: u64) -> ControlFlow<()> {
+    /// Runs over this worker's share of the images that have up to so many bytes
+    /// in a gap.
+    fn run_all(&mut self, gap: Gap, bytes: usize, worker: u64) -> ControlFlow<()> {
+        let Gap { before, after } = gap;
         for length in 0..=bytes {
             let mut image = before.to_vec();
             image.resize(before.len() + length, 0);
+            image.extend_from_slice(after);
             let mut turn = 0;
             loop {
-                // The workers share the images by their last byte.
+                // The workers share the images by the last byte in the gap.
                 if turn % THREADS == worker {
                     self.run(&image, 0)?;
                 }
                 turn += 1;
-                if !advance(&mut image[before.len()..]) {
+                if !advance(&mut image[before.len()..before.len() + length]) {
                     break;
                 }
             }
@@ -236,9 +263,8 @@ impl<'a> Pair<'a> {
         let column = column(&whole, self.ours);
         self.outcome.tally.count(family, column);
         self.outcome.tally.look_into(family, &whole);
-        if self.ours.edition == Edition::Two {
-            self.outcome.tally.look_across(image, &whole);
-        }
+        let entry = self.ours.entry;
+        self.outcome.tally.look_across(image, entry, &whole);
         let differs = first_difference(image, &whole, self.ours, &mut self.outcome.calls);
         if differs.is_some() {
             self.lowest.fetch_min(self.number, Ordering::Relaxed);
@@ -254,8 +280,8 @@ impl<'a> Pair<'a> {
 /// Findings are worked out only if the library has them.
 fn worked_out(image: &[u8], ours: Library) -> Whole {
     match ours.check {
-        Some(_) => Whole::of(image, ours.edition),
-        None => Whole::sizes_of(image, ours.edition),
+        Some(_) => Whole::of(image, ours.entry),
+        None => Whole::sizes_of(image, ours.entry),
     }
 }
 

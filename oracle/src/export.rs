@@ -60,6 +60,13 @@ type Fit<T> = Result<T, Unfit>;
 /// Writes a schema as an image, names numbered by first use in its bytes.
 /// Edition one has no place for limits and retired ones and leaves them out.
 pub fn export(schema: &CompiledSchema, edition: Edition) -> Fit<Vec<u8>> {
+    let bytes = tree_of(schema, edition)?.bytes(edition);
+    check(bytes.len() as u64, IMAGE_LIMIT as u64, Unfit::Bytes)?;
+    Ok(bytes)
+}
+
+/// What is written, as a tree.
+pub fn tree_of(schema: &CompiledSchema, edition: Edition) -> Fit<Schema> {
     let mut exporter = Exporter {
         schema,
         edition,
@@ -76,9 +83,7 @@ pub fn export(schema: &CompiledSchema, edition: Edition) -> Fit<Vec<u8>> {
     check(model.names.len() as u64, NAME_LIMIT, Unfit::Names)?;
     let count = model.declarations.len() as u64;
     check(count, DECLARATION_LIMIT, Unfit::Declarations)?;
-    let bytes = model.bytes(edition);
-    check(bytes.len() as u64, IMAGE_LIMIT as u64, Unfit::Bytes)?;
-    Ok(bytes)
+    Ok(model)
 }
 
 fn check(value: u64, limit: u64, unfit: Unfit) -> Fit<()> {

@@ -1,4 +1,4 @@
-//! The numbers of a schema image, their limits, and the editions.
+//! The numbers of a schema image, their limits, the editions and the layouts.
 
 /// How an image is written. Nothing in its bytes tells: whoever reads or
 /// writes one is told.
@@ -12,6 +12,46 @@ pub enum Edition {
 
 impl Edition {
     pub const ALL: [Edition; 2] = [Edition::One, Edition::Two];
+}
+
+/// Where the fields of messages and variants begin in a value.
+#[derive(Debug, Clone, Copy, PartialEq, Eq)]
+pub enum Layout {
+    /// Each at the bit after the one before it.
+    Packed,
+    /// Each on a whole byte, as the head board has it.
+    Aligned,
+}
+
+impl Layout {
+    pub const ALL: [Layout; 2] = [Layout::Packed, Layout::Aligned];
+}
+
+/// Which check is meant: of images of an edition, for a layout.
+#[derive(Debug, Clone, Copy, PartialEq, Eq)]
+pub struct Entry {
+    pub edition: Edition,
+    pub layout: Layout,
+}
+
+impl Entry {
+    pub const ONE: Entry = entry(Edition::One, Layout::Packed);
+    pub const TWO: Entry = entry(Edition::Two, Layout::Packed);
+    pub const ALIGNED: Entry = entry(Edition::One, Layout::Aligned);
+    pub const ALIGNED_TWO: Entry = entry(Edition::Two, Layout::Aligned);
+
+    pub const ALL: [Entry; 4] = [Entry::ONE, Entry::TWO, Entry::ALIGNED, Entry::ALIGNED_TWO];
+}
+
+const fn entry(edition: Edition, layout: Layout) -> Entry {
+    Entry { edition, layout }
+}
+
+/// The ordinary check, which packs.
+impl From<Edition> for Entry {
+    fn from(edition: Edition) -> Self {
+        entry(edition, Layout::Packed)
+    }
 }
 
 /// Most bytes of an image.

@@ -4,7 +4,7 @@
 use std::fmt;
 
 use crate::answer::{Answer, Places, TooLong, Whole, PROGRAM_PLACES};
-use crate::format::{Edition, SLOT_LIMIT};
+use crate::format::{Entry, SLOT_LIMIT};
 
 /// `number` 0 is accepted, with a count as `value`; else it is the refusal and
 /// `value` its place.
@@ -22,12 +22,12 @@ pub type Sizer = fn(&[u8], &mut [u64]) -> Verdict;
 /// Fills in sizes, and six numbers a finding; the value is the finding count.
 pub type Checker = fn(&[u8], &mut [u64], &mut [u32]) -> Verdict;
 
-/// The functions for images of one edition.
+/// The functions for images of one edition and one layout.
 #[derive(Clone, Copy)]
 pub struct Library {
-    pub edition: Edition,
+    pub entry: Entry,
     pub read: Reader,
-    /// Edition two has no function for sizes alone.
+    /// Only the packed layout of edition one has a function for sizes alone.
     pub sizes: Option<Sizer>,
     /// None leaves the findings out, which take longest to compare.
     pub check: Option<Checker>,
@@ -197,42 +197,64 @@ fn check_calls(whole: &Whole, sizes: &[usize]) -> Vec<Call> {
 
 /// The Rust side with the library's interface, sizes and findings included.
 pub const REFERENCE: Library = Library {
-    edition: Edition::One,
-    read: |image, starts| read(image, Edition::One, starts),
     sizes: Some(|image, sizes| {
         let call = Call::Sizes { sizes: sizes.len() };
-        let reply = told(&Whole::sizes_of(image, Edition::One), call);
+        let reply = told(&Whole::sizes_of(image, Entry::ONE), call);
         sizes.copy_from_slice(&reply.table);
         reply.verdict
     }),
-    check: Some(|image, sizes, findings| check(image, Edition::One, sizes, findings)),
+    ..reference(
+        Entry::ONE,
+        |image, starts| read(image, Entry::ONE, starts),
+        |image, sizes, findings| check(image, Entry::ONE, sizes, findings),
+    )
 };
 
 /// The same for edition two.
-pub const REFERENCE_TWO: Library = Library {
-    edition: Edition::Two,
-    read: |image, starts| read(image, Edition::Two, starts),
-    sizes: None,
-    check: Some(|image, sizes, findings| check(image, Edition::Two, sizes, findings)),
-};
+pub const REFERENCE_TWO: Library = reference(
+    Entry::TWO,
+    |image, starts| read(image, Entry::TWO, starts),
+    |image, sizes, findings| check(image, Entry::TWO, sizes, findings),
+);
 
-fn read(image: &[u8], edition: Edition, starts: &mut [usize]) -> Verdict {
+/// The same for the head board, in both editions.
+pub const REFERENCE_ALIGNED: Library = reference(
+    Entry::ALIGNED,
+    |image, starts| read(image, Entry::ALIGNED, starts),
+    |image, sizes, findings| check(image, Entry::ALIGNED, sizes, findings),
+);
+pub const REFERENCE_ALIGNED_TWO: Library = reference(
+    Entry::ALIGNED_TWO,
+    |image, starts| read(image, Entry::ALIGNED_TWO, starts),
+    |image, sizes, findings| check(image, Entry::ALIGNED_TWO, sizes, findings),
+);
+
+const fn reference(entry: Entry, read: Reader, check: Checker) -> Library {
+    Library {
+        entry,
+        read,
+        sizes: None,
+        check: Some(check),
+    }
+}
+
+fn read(image: &[u8], entry: Entry, starts: &mut [usize]) -> Verdict {
     let call = Call::Read {
         starts: starts.len(),
     };
-    let reply = told(&Whole::sizes_of(image, edition), call);
+    let reply = told(&Whole::sizes_of(image, entry), call);
     for (place, &start) in starts.iter_mut().zip(&reply.table) {
         *place = start as usize;
     }
     reply.verdict
 }
 
-fn check(image: &[u8], edition: Edition, sizes: &mut [u64], findings: &mut [u32]) -> Verdict {
+fn check(image: &[u8], entry: Entry, sizes: &mut [u64], findings: &mut [u32]) -> Verdict {
     let call = Call::Check {
         sizes: sizes.len(),
         findings: findings.len(),
     };
-    let reply = told(&Whole::of(image, edition), call);
+    let reply = told(&Whole::of(image, entry), call);
     sizes.copy_from_slice(&reply.table);
     findings.copy_from_slice(&reply.findings);
     reply.verdict

@@ -11,8 +11,8 @@ use oracle::bench::bench;
 use oracle::compare::{compare, exhaustive, smallest_difference, Difference, Outcome, Selection};
 use oracle::example::bond_report;
 use oracle::export::export;
-use oracle::format::{Edition, SLOT_LIMIT};
-use oracle::generate::{family_named, in_edition, Families};
+use oracle::format::{Edition, Entry, Layout, SLOT_LIMIT};
+use oracle::generate::{families, family_named, Families};
 use oracle::lengths;
 use oracle::library::{Call, Library, Verdict};
 use oracle::program;
@@ -31,15 +31,17 @@ oracle shrink < image                            the smallest image that differs
 oracle survey --count N --seed S [--family F]    whole answers of the Rust alone, counted
 oracle images --count N --seed S --out FOLDER    images that are not long, a file each
 oracle answer < image                            the lines of vexcheck
-oracle export-example > image                    the bond report as an image
 oracle families                                  the families of generated images
-These take --edition 1, which is meant where it is not said, or --edition 2. The others do not:
+These take --edition 1, which is meant where it is not said, or --edition 2; and --layout packed,
+which is meant where it is not said, or --layout aligned, the head board. This takes an edition:
+oracle export-example > image                    the bond report as an image
+The others take neither; lengths and bench try both layouts, bench both editions:
 oracle record --count N --seed S --out FILE      images and how they are read
 oracle record-lines --count N --seed S --out FILE  images and the lines of vexcheck
 oracle program --binary FILE --count N --seed S  a vexcheck and the Rust on generated images
 oracle stress --binary FILE --count N --seed S   a vexcheck and the Rust on deep images
 oracle lengths --count N --seed S                enumerated lengths beside the size tables
-oracle bench                                     times of reading, sizes, check; ratios, also of editions
+oracle bench                                     times of reading, sizes, check; ratios
 oracle stack                                     deep images on stacks of the recorded size
 oracle stack --measure                           the least stacks, to be recorded
 compare, exhaustive, read and shrink need the feature `ours`, which links the library.
@@ -78,33 +80,31 @@ fn run(arguments: &[String]) -> Result<bool, Failure> {
         "stress" => return run_stress(options),
         "lengths" => return run_lengths(options),
         "bench" => {
-            edition_one(options)?;
-            on_long_stack(|| bench(ours(Edition::One).ok(), ours(Edition::Two).ok()));
+            without_entry(options)?;
+            on_long_stack(|| bench(|entry| ours(entry).ok()));
         }
         "stack" => return run_stack(options),
         "answer" => run_answer(options)?,
         "export-example" => {
+            without_layout(options)?;
             let image = export(&bond_report(), edition(options)?)?;
             io::stdout().write_all(&image)?;
         }
-        "families" => in_edition(edition(options)?)
-            .iter()
-            .for_each(|family| println!("{}", family.name)),
+        "families" => {
+            families(entry(options)?).for_each(|(_, family)| println!("{}", family.name));
+        }
         _ => return Err(format!("no command {command}\n{USAGE}").into()),
     }
     Ok(true)
 }
 
 #[cfg(feature = "ours")]
-fn ours(edition: Edition) -> Result<Library, Failure> {
-    Ok(match edition {
-        Edition::One => oracle::ours::OURS,
-        Edition::Two => oracle::ours::OURS_TWO,
-    })
+fn ours(entry: Entry) -> Result<Library, Failure> {
+    Ok(oracle::ours::ours(entry))
 }
 
 #[cfg(not(feature = "ours"))]
-fn ours(_: Edition) -> Result<Library, Failure> {
+fn ours(_: Entry) -> Result<Library, Failure> {
     Err("built without the feature `ours`".into())
 }
 
@@ -113,20 +113,49 @@ fn option<'a>(options: &'a [String], name: &str) -> Option<&'a str> {
     options.get(at + 1).map(String::as_str)
 }
 
-fn edition(options: &[String]) -> Result<Edition, Failure> {
-    if options.iter().all(|option| option != "--edition") {
-        return Ok(Edition::One);
+/// The value of an option that says one of two things, the first if it is not
+/// there.
+fn one_of<T>(options: &[String], name: &str, values: [(&str, T); 2]) -> Result<T, Failure> {
+    let [(first, default), (second, other)] = values;
+    if options.iter().all(|option| option != name) {
+        return Ok(default);
     }
-    match option(options, "--edition") {
-        Some("1") => Ok(Edition::One),
-        Some("2") => Ok(Edition::Two),
-        Some(other) => Err(format!("--edition is 1 or 2, not {other}").into()),
-        None => Err("--edition is 1 or 2".into()),
+    match option(options, name) {
+        Some(value) if value == first => Ok(default),
+        Some(value) if value == second => Ok(other),
+        Some(value) => Err(format!("{name} is {first} or {second}, not {value}").into()),
+        None => Err(format!("{name} is {first} or {second}").into()),
     }
 }
 
-/// For commands that do not take another.
-fn edition_one(options: &[String]) -> Result<(), Failure> {
+fn edition(options: &[String]) -> Result<Edition, Failure> {
+    let values = [("1", Edition::One), ("2", Edition::Two)];
+    one_of(options, "--edition", values)
+}
+
+fn layout(options: &[String]) -> Result<Layout, Failure> {
+    let values = [("packed", Layout::Packed), ("aligned", Layout::Aligned)];
+    one_of(options, "--layout", values)
+}
+
+fn entry(options: &[String]) -> Result<Entry, Failure> {
+    Ok(Entry {
+        edition: edition(options)?,
+        layout: layout(options)?,
+    })
+}
+
+/// For commands that take no other layout.
+fn without_layout(options: &[String]) -> Result<(), Failure> {
+    match layout(options)? {
+        Layout::Packed => Ok(()),
+        Layout::Aligned => Err("this command has no --layout aligned".into()),
+    }
+}
+
+/// For commands that take no other edition and layout.
+fn without_entry(options: &[String]) -> Result<(), Failure> {
+    without_layout(options)?;
     match edition(options)? {
         Edition::One => Ok(()),
         Edition::Two => Err("this command has no --edition 2".into()),
@@ -140,24 +169,24 @@ fn number(options: &[String], name: &str) -> Result<u64, Failure> {
 }
 
 fn selection(options: &[String]) -> Result<Selection, Failure> {
-    let edition = edition(options)?;
+    let entry = entry(options)?;
     let families = match option(options, "--family") {
         None => Families::All,
         Some(name) => {
-            let family = family_named(name, edition);
-            Families::One(family.ok_or_else(|| format!("no family {name} in this edition"))?)
+            let family = family_named(name, entry);
+            Families::One(family.ok_or_else(|| format!("no family {name} here"))?)
         }
     };
     Ok(Selection {
         count: number(options, "--count")?,
         seed: number(options, "--seed")?,
         families,
-        edition,
+        entry,
     })
 }
 
 fn selection_one(options: &[String]) -> Result<Selection, Failure> {
-    edition_one(options)?;
+    without_entry(options)?;
     selection(options)
 }
 
@@ -169,11 +198,11 @@ fn image_from_input() -> io::Result<Vec<u8>> {
 
 fn run_compare(options: &[String]) -> Result<bool, Failure> {
     let selection = selection(options)?;
-    let ours = ours(selection.edition)?;
+    let ours = ours(selection.entry)?;
     let start = Instant::now();
     let outcome = compare(selection, ours).shrunk(ours);
     print!("{}", outcome.tally);
-    let enough = enough(selection, || outcome.below_floor(selection.edition));
+    let enough = enough(selection, || outcome.below_floor(selection.entry));
     Ok(report("compare", &outcome, start) && enough)
 }
 
@@ -188,7 +217,7 @@ fn enough(selection: Selection, below_floor: impl Fn() -> Vec<String>) -> bool {
 }
 
 fn run_exhaustive(options: &[String]) -> Result<bool, Failure> {
-    let (bytes, ours) = (number(options, "--bytes")?, ours(edition(options)?)?);
+    let (bytes, ours) = (number(options, "--bytes")?, ours(entry(options)?)?);
     let start = Instant::now();
     let outcome = exhaustive(bytes as usize, ours).shrunk(ours);
     println!("images {}", by_number(&outcome.tally.totals()));
@@ -196,7 +225,7 @@ fn run_exhaustive(options: &[String]) -> Result<bool, Failure> {
 }
 
 fn run_read(options: &[String]) -> Result<(), Failure> {
-    let ours = ours(edition(options)?)?;
+    let ours = ours(entry(options)?)?;
     let image = image_from_input()?;
     let call = Call::Read {
         starts: SLOT_LIMIT as usize,
@@ -216,8 +245,8 @@ fn run_read(options: &[String]) -> Result<(), Failure> {
 
 /// Holds or measures, or answers one case as a process of its own.
 fn run_stack(options: &[String]) -> Result<bool, Failure> {
-    edition_one(options)?;
-    let ours = ours(Edition::One).ok();
+    without_entry(options)?;
+    let ours = ours(Entry::ONE).ok();
     if options.iter().any(|option| option == "--measure") {
         stack::measure(ours)?;
         return Ok(true);
@@ -235,7 +264,7 @@ fn run_stack(options: &[String]) -> Result<bool, Failure> {
 }
 
 fn run_shrink(options: &[String]) -> Result<bool, Failure> {
-    let ours = ours(edition(options)?)?;
+    let ours = ours(entry(options)?)?;
     let image = image_from_input()?;
     let difference = on_long_stack(|| smallest_difference(&image, ours));
     match &difference {
@@ -253,7 +282,7 @@ fn run_survey(options: &[String]) -> Result<bool, Failure> {
     if let Some(image) = &survey.failed {
         println!("the check failed on {}", hex(image));
     }
-    let enough = enough(selection, || survey.tally.below_floor(selection.edition));
+    let enough = enough(selection, || survey.tally.below_floor(selection.entry));
     let images = survey.tally.images();
     let seconds = start.elapsed().as_secs_f64();
     println!("survey: {images} images, {seconds:.1} s");
@@ -314,7 +343,7 @@ fn run_program(options: &[String]) -> Result<bool, Failure> {
 
 fn run_stress(options: &[String]) -> Result<bool, Failure> {
     let binary = option(options, "--binary").ok_or("--binary is missing")?;
-    let deep = family_named("deep", Edition::One).ok_or("no family deep")?;
+    let deep = family_named("deep", Entry::ONE).ok_or("no family deep")?;
     let selection = Selection {
         families: Families::One(deep),
         ..selection_one(options)?
@@ -350,17 +379,28 @@ fn run_stress(options: &[String]) -> Result<bool, Failure> {
 }
 
 fn run_lengths(options: &[String]) -> Result<bool, Failure> {
-    edition_one(options)?;
+    without_entry(options)?;
     let (count, seed) = (number(options, "--count")?, number(options, "--seed")?);
-    let start = Instant::now();
-    let summary = lengths::run(count, seed, &lengths::subjects(ours(Edition::One).ok()));
     println!("per clause: held (held though a proviso is not met, past the horizon)");
+    let holds = Layout::ALL.map(|layout| lengths_of(layout, count, seed));
+    Ok(holds == [true; 2])
+}
+
+/// Lengths and sizes of one layout; false if they do not agree.
+fn lengths_of(layout: Layout, count: u64, seed: u64) -> bool {
+    let entry = Entry {
+        layout,
+        ..Entry::ONE
+    };
+    let start = Instant::now();
+    let subjects = lengths::subjects(layout, ours(entry).ok());
+    let summary = lengths::run(count, seed, layout, &subjects);
     print!("{summary}");
     if let Some(broken) = &summary.broken {
         println!("smallest image found: {}", hex(&broken.image));
         println!("{}: {}", broken.subject, broken.told);
     }
-    let low = summary.too_low(count);
+    let low = summary.too_low(count, layout);
     low.iter().for_each(|count| println!("too low: {count}"));
     let verdict = match (&summary.broken, low.is_empty()) {
         (Some(_), _) => "BROKEN",
@@ -369,15 +409,15 @@ fn run_lengths(options: &[String]) -> Result<bool, Failure> {
     };
     let seconds = start.elapsed().as_secs_f64();
     let schemas = summary.small.met.schemas + summary.families.met.schemas;
-    println!("lengths: {schemas} schemas, {verdict}, {seconds:.1} s");
-    Ok(summary.broken.is_none() && low.is_empty())
+    println!("lengths, {layout:?}: {schemas} schemas, {verdict}, {seconds:.1} s");
+    summary.broken.is_none() && low.is_empty()
 }
 
 fn run_answer(options: &[String]) -> Result<(), Failure> {
-    let edition = edition(options)?;
+    let entry = entry(options)?;
     let text = match image_from_input() {
         Err(_) => "vexil-typeck 1\nrefused 0 0\n".into(),
-        Ok(image) => match on_long_stack(|| patient_answer(&image, edition)) {
+        Ok(image) => match on_long_stack(|| patient_answer(&image, entry)) {
             Ok(answer) => lines(&answer),
             Err(_) => return Err("the check would take too long".into()),
         },
@@ -386,8 +426,8 @@ fn run_answer(options: &[String]) -> Result<(), Failure> {
     Ok(())
 }
 
-fn patient_answer(image: &[u8], edition: Edition) -> Result<Answer, TooLong> {
-    Whole::within(image, edition, PATIENT_STEP_LIMIT).answer(PROGRAM_PLACES)
+fn patient_answer(image: &[u8], entry: Entry) -> Result<Answer, TooLong> {
+    Whole::within(image, entry, PATIENT_STEP_LIMIT).answer(PROGRAM_PLACES)
 }
 
 /// Prints a difference, if any, and the summary line.

@@ -7,7 +7,6 @@ use std::panic::{catch_unwind, AssertUnwindSafe};
 
 use crate::answer::{Answer, Places, Whole, PROGRAM_PLACES};
 use crate::compare::{each_image, Selection};
-use crate::format::Edition;
 use crate::random::Random;
 use crate::tally::{Tally, TOO_LONG};
 use crate::workers::in_parallel;
@@ -35,15 +34,13 @@ fn part(selection: Selection, worker: u64) -> Survey {
     let mut random = Random::new(!selection.seed, worker);
     each_image(selection, worker, |family, image| {
         let places = places(&mut random);
-        let worked = || Whole::of(image, selection.edition);
+        let worked = || Whole::of(image, selection.entry);
         let Ok(whole) = catch_unwind(AssertUnwindSafe(worked)) else {
             survey.failed = Some(image.to_vec());
             return ControlFlow::Break(());
         };
         survey.tally.look_into(family, &whole);
-        if selection.edition == Edition::Two {
-            survey.tally.look_across(image, &whole);
-        }
+        survey.tally.look_across(image, selection.entry, &whole);
         let column = match &whole.answer(places) {
             Ok(Answer::Refused { number, .. }) => *number as usize,
             Ok(Answer::Accepted { .. }) => 0,

@@ -3,13 +3,22 @@
 use std::fmt;
 
 use crate::answer::{
-    AddedCounts, Classes, FieldCounts, Operation, Part, PassedLimit, Unions, Whole,
+    AddedCounts, AlignedCounts, Classes, FieldCounts, Operation, Part, PassedLimit, Unions, Whole,
 };
-use crate::format::Edition;
+use crate::format::{Edition, Entry, Layout};
 use crate::generate::{FAMILIES, FIRST_EDITION};
 
-/// The answers there are: accepted, and the refusals.
-pub const NUMBERS: [usize; 14] = [0, 1, 2, 3, 4, 5, 6, 7, 8, 9, 10, 11, 12, 14];
+/// The answers there are: accepted, and the refusals; the last is the head
+/// board's alone.
+const NUMBERS: [usize; 15] = [0, 1, 2, 3, 4, 5, 6, 7, 8, 9, 10, 11, 12, 14, 15];
+
+/// The answers of a layout.
+pub fn numbers(layout: Layout) -> &'static [usize] {
+    match layout {
+        Layout::Packed => &NUMBERS[..NUMBERS.len() - 1],
+        Layout::Aligned => &NUMBERS,
+    }
+}
 
 /// Columns: one a number, and checks that would take too long.
 pub const TOO_LONG: usize = NUMBERS[NUMBERS.len() - 1] + 1;
@@ -30,7 +39,25 @@ fn images_each(number: usize, edition: Edition) -> u64 {
         // Images above 65,536 bytes are rare.
         (1, Edition::One) => 200_000,
         (1, Edition::Two) => 4_000,
+        (15, _) => 20,
         _ => 20_000,
+    }
+}
+
+/// So many of a run's images as are of families that have many trait fields.
+fn with_trait_fields(images: u64, entry: Entry) -> u64 {
+    match entry {
+        Entry::ONE => images,
+        Entry::TWO => images * 2 / 3,
+        _ => images / 2,
+    }
+}
+
+/// So many as have what edition two adds; the head board has families besides.
+fn with_additions(images: u64, layout: Layout) -> u64 {
+    match layout {
+        Layout::Packed => images,
+        Layout::Aligned => images * 2 / 3,
     }
 }
 
@@ -48,6 +75,8 @@ pub struct Tally {
     first_steps: FirstSteps,
     /// What edition two adds; none in a run of edition one.
     added: AddedCounts,
+    /// What the head board changes; nothing in a run of the packed layout.
+    aligned: AlignedCounts,
 }
 
 impl Default for Tally {
@@ -62,6 +91,7 @@ impl Default for Tally {
             unions: [0; 3],
             first_steps: FirstSteps::default(),
             added: AddedCounts::default(),
+            aligned: AlignedCounts::default(),
         }
     }
 }
@@ -88,11 +118,18 @@ impl Tally {
         self.added.add(&whole.added);
     }
 
-    /// Counts an image of edition two if edition one accepts it as well.
-    pub fn look_across(&mut self, image: &[u8], whole: &Whole) {
-        if whole.refusal().is_none() {
-            self.added
-                .count_both(&Whole::of(image, Edition::One), whole);
+    /// Counts what edition one makes of an image of edition two, and what the
+    /// packed layout makes of one for the head board.
+    pub fn look_across(&mut self, image: &[u8], entry: Entry, whole: &Whole) {
+        if entry.edition == Edition::Two && whole.refusal().is_none() {
+            let first = Entry {
+                edition: Edition::One,
+                ..entry
+            };
+            self.added.count_both(&Whole::of(image, first), whole);
+        }
+        if entry.layout == Layout::Aligned {
+            self.aligned.count(image, entry.edition, whole);
         }
     }
 
@@ -122,6 +159,7 @@ impl Tally {
             add_counts(counts, more);
         }
         self.added.add(&other.added);
+        self.aligned.add(&other.aligned);
     }
 
     /// Images with a step past the limit, by the first such step.
@@ -130,15 +168,12 @@ impl Tally {
     }
 
     /// What a run over all families has too few of, lest it show nothing:
-    /// trait fields, images by class of finding, images by refusal, and what
-    /// edition two adds.
-    pub fn below_floor(&self, edition: Edition) -> Vec<String> {
+    /// trait fields, images by class of finding, images by refusal, what
+    /// edition two adds and what the head board changes.
+    pub fn below_floor(&self, entry: Entry) -> Vec<String> {
+        let Entry { edition, layout } = entry;
         let images = self.images();
-        let floor = FieldCounts::floor(match edition {
-            Edition::One => images,
-            // A part is of families that have few trait fields.
-            Edition::Two => images * 2 / 3,
-        });
+        let floor = FieldCounts::floor(with_trait_fields(images, entry));
         let mut held = Vec::new();
         for (what, count) in self.fields.each() {
             held.push((format!("trait fields, {what}"), count, floor));
@@ -148,14 +183,17 @@ impl Tally {
         }
         // Only calls with shorter tables than the program's answer 10.
         let totals = self.totals();
-        for number in NUMBERS.into_iter().filter(|&number| number != 10) {
+        for &number in numbers(layout).iter().filter(|&&number| number != 10) {
             let what = format!("images answered {number}");
             held.push((what, totals[number], images / images_each(number, edition)));
         }
         if edition == Edition::Two {
-            held.extend(self.added.held(images));
+            held.extend(self.added.held(with_additions(images, layout)));
             let what = "images of edition one".into();
             held.push((what, self.first_edition(), images / FIRST_EDITION_EACH));
+        }
+        if layout == Layout::Aligned {
+            held.extend(self.aligned.held(images));
         }
         let few = held.into_iter().filter(|(_, count, floor)| count < floor);
         few.map(|(what, count, floor)| format!("{what}: {count}, not {floor}"))
@@ -209,6 +247,9 @@ impl fmt::Display for Tally {
         self.fields.fmt(out)?;
         if self.added != AddedCounts::default() {
             self.added.fmt(out)?;
+        }
+        if self.aligned != AlignedCounts::default() {
+            self.aligned.fmt(out)?;
         }
         let Self { deep, deepest, .. } = self;
         writeln!(

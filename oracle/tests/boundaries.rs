@@ -1,10 +1,12 @@
 //! The Rust side at every boundary of the format and of sizes.
 
 use oracle::answer::{Answer, Whole, PROGRAM_PLACES};
-use oracle::format::Edition;
+use oracle::format::{Edition, Entry, Layout};
 use oracle::generate::bounds::boundaries;
 use oracle::generate::edges::all_edges;
+use oracle::generate::rounding::all_rounded;
 use oracle::import::import;
+use oracle::model::Schema;
 
 #[test]
 fn importer_answers_each_boundary() {
@@ -19,18 +21,37 @@ fn importer_answers_each_boundary() {
     }
 }
 
+/// The refusal for a size, if there is one.
+fn refused(schema: &Schema, entry: Entry) -> Option<(u64, u64)> {
+    let whole = Whole::sizes_of(&schema.bytes(entry.edition), entry);
+    let answer = whole.sizes_answer(PROGRAM_PLACES.sizes);
+    match answer.expect("a short check") {
+        Answer::Refused { number, place } => Some((number, place)),
+        Answer::Accepted { .. } => None,
+    }
+}
+
 #[test]
 fn sizes_are_refused_one_bit_above_the_limit() {
     assert!(all_edges().len() > 2_500);
     for edge in all_edges() {
-        for edition in Edition::ALL {
-            let image = edge.schema.bytes(edition);
-            let answer = Whole::sizes_of(&image, edition).sizes_answer(PROGRAM_PLACES.sizes);
-            let refused = match answer.expect("a short check") {
-                Answer::Refused { number, place } => Some((number, place)),
-                Answer::Accepted { .. } => None,
+        for entry in [Entry::ONE, Entry::TWO] {
+            assert_eq!(refused(&edge.schema, entry), edge.refused, "{}", edge.what);
+        }
+    }
+}
+
+#[test]
+fn rounding_passes_the_limit_from_2_63_less_7_on() {
+    assert!(all_rounded().len() > 150);
+    for one in all_rounded() {
+        for entry in Entry::ALL {
+            let due = match entry.layout {
+                Layout::Packed => one.packed,
+                Layout::Aligned => one.aligned,
             };
-            assert_eq!(refused, edge.refused, "{}", edge.what);
+            let what = &one.what;
+            assert_eq!(refused(&one.schema, entry), due, "{entry:?}: {what}");
         }
     }
 }

@@ -4,18 +4,18 @@ use std::sync::atomic::{AtomicU64, Ordering};
 
 use oracle::answer::Part;
 use oracle::compare::{compare, exhaustive, smallest_difference, Outcome, Selection};
-use oracle::format::Edition;
+use oracle::format::{Edition, Entry, Layout};
 use oracle::generate::{family_named, Families};
 use oracle::import::import;
 use oracle::ir::TypeDef;
 use oracle::library::{Call, Library, Verdict, REFERENCE};
-use oracle::tally::NUMBERS;
+use oracle::tally::numbers;
 
 const SELECTION: Selection = Selection {
     count: 20_000,
     seed: 3,
     families: Families::All,
-    edition: Edition::One,
+    entry: Entry::ONE,
 };
 
 /// The reference without findings, which take longer.
@@ -30,12 +30,12 @@ fn reference_sizes(image: &[u8], sizes: &mut [u64]) -> Verdict {
 }
 
 fn run_family(name: &str, library: Library) -> Outcome {
-    let family = family_named(name, library.edition).expect("a family");
+    let family = family_named(name, library.entry).expect("a family");
     let selection = Selection {
         count: 1_000,
         seed: 5,
         families: Families::One(family),
-        edition: library.edition,
+        entry: library.entry,
     };
     compare(selection, library)
 }
@@ -54,7 +54,7 @@ fn reference_equals_itself() {
     assert_eq!(outcome.difference, None);
     assert_eq!(outcome.tally.images(), selection.count);
     assert!(outcome.passed());
-    assert!(outcome.tally.below_floor(Edition::One).is_empty());
+    assert!(outcome.tally.below_floor(Entry::ONE).is_empty());
     let unions = outcome.tally.unions();
     assert!(unions.iter().all(|&turns| turns > 50), "{unions:?}");
     let first_steps = outcome.tally.first_steps();
@@ -62,7 +62,10 @@ fn reference_equals_itself() {
         assert!(counts.iter().all(|&count| count > 5), "{part:?} {counts:?}");
     }
     // Refusal 1 takes long images, which are rare.
-    for number in NUMBERS.into_iter().filter(|&number| number != 1) {
+    for &number in numbers(Layout::Packed)
+        .iter()
+        .filter(|&&number| number != 1)
+    {
         assert!(outcome.calls[number] > 0, "no call answers {number}");
     }
 }
@@ -72,7 +75,7 @@ fn reference_equals_itself() {
 fn floor_is_told() {
     let few = run_family("traits", REFERENCE)
         .tally
-        .below_floor(Edition::One);
+        .below_floor(Entry::ONE);
     let told = "trait fields, found, Mat4, whole: 0, not 4";
     assert!(few.iter().any(|few| few == told), "{few:?}");
 }

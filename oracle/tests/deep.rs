@@ -2,7 +2,7 @@
 
 use oracle::answer::{Answer, Whole, PATIENT_STEP_LIMIT, PROGRAM_PLACES};
 use oracle::bench::cases::{cases, pairs, Case, Pair};
-use oracle::format::{Edition, IMAGE_LIMIT};
+use oracle::format::{Edition, Entry, IMAGE_LIMIT};
 use oracle::generate::deep::{in_no_order, through_again, Chain, Link, Wrapper};
 use oracle::workers::on_long_stack;
 
@@ -73,6 +73,19 @@ fn full_cases_are_full() {
     }
     for pair in pairs() {
         is_full(pair.name, pair.images[1].len(), 5);
+    }
+}
+
+/// The head board is timed on all of them: none brings a size.
+#[test]
+fn cases_are_for_both_layouts() {
+    for Case { name, image } in cases() {
+        let answers = [Entry::ONE, Entry::ALIGNED].map(|entry| {
+            let whole = Whole::within(&image, entry, PATIENT_STEP_LIMIT);
+            let answer = whole.answer(PROGRAM_PLACES).expect("a short check");
+            matches!(answer, Answer::Accepted { .. })
+        });
+        assert_eq!(answers[0], answers[1], "{name}");
     }
 }
 

@@ -1,22 +1,23 @@
 //! Runs over images of edition two: the floors that they are held to, wrong
 //! libraries that they have to tell, and the option for it.
 
-use std::process::Command;
+mod command;
 
+use command::oracle;
 use oracle::compare::{compare, exhaustive, Outcome, Selection};
 use oracle::export::export;
-use oracle::format::{Edition, IMAGE_LIMIT};
+use oracle::format::{Edition, Entry, Layout, IMAGE_LIMIT};
 use oracle::generate::{family_named, Families};
 use oracle::import::{import, Added};
 use oracle::ir::{CompiledSchema, EnumVariantDef, TypeDef};
 use oracle::library::{Library, Verdict, REFERENCE, REFERENCE_TWO};
-use oracle::tally::NUMBERS;
+use oracle::tally::numbers;
 
 const SELECTION: Selection = Selection {
     count: 8_000,
     seed: 4,
     families: Families::All,
-    edition: Edition::Two,
+    entry: Entry::TWO,
 };
 
 #[test]
@@ -24,9 +25,9 @@ fn reference_equals_itself() {
     let outcome = compare(SELECTION, REFERENCE_TWO);
     assert_eq!(outcome.difference, None);
     assert!(outcome.passed());
-    assert_eq!(outcome.below_floor(Edition::Two), [""; 0]);
+    assert_eq!(outcome.below_floor(Entry::TWO), [""; 0]);
     // Refusal 1 takes long images, which are rare in edition one.
-    for number in NUMBERS {
+    for &number in numbers(Layout::Packed) {
         assert!(outcome.calls[number] > 0, "no call answers {number}");
     }
 }
@@ -43,12 +44,12 @@ fn all_short_images() {
 
 /// What a run has too few of without a family.
 fn below_floor_without(name: &str) -> Vec<String> {
-    let family = family_named(name, Edition::Two).expect("a family");
+    let family = family_named(name, Entry::TWO).expect("a family");
     let selection = Selection {
         families: Families::Without(family),
         ..SELECTION
     };
-    compare(selection, REFERENCE_TWO).below_floor(Edition::Two)
+    compare(selection, REFERENCE_TWO).below_floor(Entry::TWO)
 }
 
 /// The families of edition two alone are missed where they are left out.
@@ -70,7 +71,7 @@ fn floors_need_their_families() {
 }
 
 fn run_family(name: &str, library: Library) -> Outcome {
-    let family = family_named(name, Edition::Two).expect("a family");
+    let family = family_named(name, Entry::TWO).expect("a family");
     let selection = Selection {
         count: 1_000,
         families: Families::One(family),
@@ -82,7 +83,7 @@ fn run_family(name: &str, library: Library) -> Outcome {
 /// One family alone has too few of nearly everything.
 #[test]
 fn floors_are_told() {
-    let few = run_family("traits", REFERENCE_TWO).below_floor(Edition::Two);
+    let few = run_family("traits", REFERENCE_TWO).below_floor(Entry::TWO);
     for told in [
         "limits, Mat4, variant: 0, not 1",
         "retired lists, flags, live too: 0, not 1",
@@ -90,18 +91,7 @@ fn floors_are_told() {
     ] {
         assert!(few.iter().any(|few| few == told), "{told}: {few:?}");
     }
-    assert!(family_named("retired", Edition::One).is_none());
-}
-
-/// What the oracle writes, and what it says if it fails.
-fn oracle(arguments: &[&str]) -> Result<String, String> {
-    let mut program = Command::new(env!("CARGO_BIN_EXE_oracle"));
-    let output = program.args(arguments).output().expect("it runs");
-    let text = |bytes| String::from_utf8(bytes).expect("plain text");
-    match output.status.success() {
-        true => Ok(text(output.stdout)),
-        false => Err(text(output.stderr)),
-    }
+    assert!(family_named("retired", Entry::ONE).is_none());
 }
 
 #[test]
@@ -157,7 +147,7 @@ fn without_range(image: &[u8], is_meant: fn(Added) -> bool) -> Option<Verdict> {
 #[test]
 fn wrong_readings_are_told() {
     let of_edition_one = Library {
-        edition: Edition::Two,
+        entry: Entry::TWO,
         sizes: None,
         ..REFERENCE
     };

@@ -6,7 +6,7 @@ mod taken_out;
 use oracle::answer::{answer, Answer, PROGRAM_PLACES};
 use oracle::example::bond_report;
 use oracle::export::{export, Unfit};
-use oracle::format::{Edition, IMAGE_LIMIT};
+use oracle::format::{Edition, Entry, IMAGE_LIMIT};
 use oracle::generate::{batch, Families};
 use oracle::import::{import, Added};
 use oracle::ir::{CompiledSchema, FieldDef, TombstoneDef, TypeDef};
@@ -392,7 +392,7 @@ fn what_does_not_fit_edition_two_is_told() {
 fn each_accepted(batches: u64, visit: &mut (dyn FnMut(&[u8], CompiledSchema) + Send)) {
     on_long_stack(|| {
         for number in 0..batches {
-            batch(31, number, Families::All, Edition::Two, |_, image| {
+            batch(31, number, Families::All, Entry::TWO, |_, image| {
                 if let Ok(imported) = import(image, Edition::Two) {
                     visit(image, imported.schema);
                 }

@@ -10,6 +10,7 @@ enum { MARK = 0x5a5a, SIZES = 12, FINDINGS = 15, STARTS = 5, GUARD = 4 };
 /* An enum of ordinal 4; a message with the span 5, 9 that holds itself and the enum; an empty slot. The first two are declared. */
 static const uint8_t loop[] = {1, 0, 3, 2, 0, 0, 0, 1, 4, 1, 5, 9, 0, 2, 0, 0, 3, 1, 0, 0, 3, 0, 0, 2, 0, 1};
 static const uint64_t loop_sizes[] = {VEXIL_SIZE_ENUM, 3, 0, VEXIL_SIZE_OPEN, 3, 0, VEXIL_SIZE_NONE, 0, 0};
+static const uint64_t loop_aligned[] = {VEXIL_SIZE_ENUM, 3, 0, VEXIL_SIZE_OPEN, 8, 0, VEXIL_SIZE_NONE, 0, 0};
 static const uint32_t loop_findings[] = {VEXIL_FINDING_ENDLESS, 1, 5, 9, 0, 0};
 static const size_t loop_starts[] = {3, 9, 22};
 
@@ -17,6 +18,17 @@ static const size_t loop_starts[] = {3, 9, 22};
 static const uint8_t loop_two[] = {1, 0, 3, 2, 0, 0, 0, 1, 4, 2, 9, 4, 1, 5, 9, 0,
                                    2, 0, 0, 3, 1, 7, 0, 0, 3, 0, 0xac, 2, 0, 2, 0, 1};
 static const size_t loop_two_starts[] = {3, 12, 28};
+
+/* The same once more, in both editions, but that the message stores the fixed size 6. */
+static const uint8_t stored[] = {1, 0, 3, 2, 0, 0, 0, 1, 4, 1, 5, 9, 1, 6, 2, 0, 0, 3, 1, 0, 0, 3, 0, 0, 2, 0, 1};
+static const uint8_t stored_two[] = {1, 0, 3, 2, 0, 0, 0, 1, 4, 2, 9, 4, 1, 5, 9, 1, 6,
+                                     2, 0, 0, 3, 1, 7, 0, 0, 3, 0, 0xac, 2, 0, 2, 0, 1};
+
+/* A config; a message of 2^63 - 7 Bool, which rounded pass the limit, in both editions. The message is declared. */
+static const uint8_t large[] = {1, 0, 2, 6, 1, 5, 9, 0, 1, 0, 0, 6, 0, 0,
+                                0xf9, 0xff, 0xff, 0xff, 0xff, 0xff, 0xff, 0xff, 0x7f, 1, 1};
+static const uint8_t large_two[] = {1, 0, 2, 6, 1, 5, 9, 0, 1, 0, 0, 6, 0, 0,
+                                    0xf9, 0xff, 0xff, 0xff, 0xff, 0xff, 0xff, 0xff, 0x7f, 8, 1, 1};
 
 /* A number at byte 1 that is not in its shortest form. */
 static const uint8_t long_form[] = {1, 0x80, 0, 0, 0};
@@ -50,10 +62,10 @@ static uint64_t due(uint64_t row, size_t place, size_t used, size_t length)
     return place < used ? row : place < length ? 0 : MARK;
 }
 
-static void expect_sizes(const char *call, size_t length, size_t used)
+static void expect_sizes(const char *call, const uint64_t *rows, size_t length, size_t used)
 {
     for (size_t i = 0; i < SIZES + GUARD; i++)
-        expect(call, "size", i, sizes[i], due(loop_sizes[i < 9 ? i : 0], i, used, length));
+        expect(call, "size", i, sizes[i], due(rows[i < 9 ? i : 0], i, used, length));
 }
 
 static void expect_findings(const char *call, size_t length, size_t used)
@@ -75,23 +87,26 @@ static void expect_answer(const char *call, struct vexil_answer answer, uint64_t
     calls++;
 }
 
-/* What an edition has: both checks are called alike, and so are both readers. */
-struct edition {
+/* What an edition has for a layout: all checks are called alike, and so are both readers. */
+struct entry {
     struct vexil_answer (*check)(const uint8_t *, size_t, uint64_t *, size_t, uint32_t *, size_t);
+    const uint64_t *sizes;
     struct vexil_answer (*read)(const uint8_t *, size_t, size_t *, size_t);
     const size_t *starts;
 };
 
-static const struct edition one = {vexil_check, vexil_read, loop_starts};
-static const struct edition two = {vexil_check_two, vexil_read_two, loop_two_starts};
+static const struct entry one = {vexil_check, loop_sizes, vexil_read, loop_starts};
+static const struct entry two = {vexil_check_two, loop_sizes, vexil_read_two, loop_two_starts};
+static const struct entry aligned = {vexil_check_aligned, loop_aligned, vexil_read, loop_starts};
+static const struct entry aligned_two = {vexil_check_aligned_two, loop_aligned, vexil_read_two, loop_two_starts};
 
 /* Each tries one call. A table of length 0 is lent as a null pointer. */
-static void check(const char *call, const struct edition *edition, const uint8_t *image, size_t length, size_t s, size_t f,
+static void check(const char *call, const struct entry *entry, const uint8_t *image, size_t length, size_t s, size_t f,
                   uint64_t number, uint64_t value)
 {
     mark();
-    expect_answer(call, edition->check(image, length, s ? sizes : NULL, s, f ? findings : NULL, f), number, value);
-    expect_sizes(call, s, number ? 0 : 9);
+    expect_answer(call, entry->check(image, length, s ? sizes : NULL, s, f ? findings : NULL, f), number, value);
+    expect_sizes(call, entry->sizes, s, number ? 0 : 9);
     expect_findings(call, f, number ? 0 : 6);
     expect_starts(call, loop_starts, 0, 0);
 }
@@ -100,19 +115,19 @@ static void size(const char *call, const uint8_t *image, size_t length, size_t s
 {
     mark();
     expect_answer(call, vexil_sizes(image, length, s ? sizes : NULL, s), number, value);
-    expect_sizes(call, s, number ? 0 : 9);
+    expect_sizes(call, loop_sizes, s, number ? 0 : 9);
     expect_findings(call, 0, 0);
     expect_starts(call, loop_starts, 0, 0);
 }
 
-static void read(const char *call, const struct edition *edition, const uint8_t *image, size_t length, size_t s,
+static void read(const char *call, const struct entry *entry, const uint8_t *image, size_t length, size_t s,
                  uint64_t number, uint64_t value)
 {
     mark();
-    expect_answer(call, edition->read(image, length, s ? starts : NULL, s), number, value);
-    expect_sizes(call, 0, 0);
+    expect_answer(call, entry->read(image, length, s ? starts : NULL, s), number, value);
+    expect_sizes(call, entry->sizes, 0, 0);
     expect_findings(call, 0, 0);
-    expect_starts(call, edition->starts, s, number ? 0 : s < 3 ? s : 3);
+    expect_starts(call, entry->starts, s, number ? 0 : s < 3 ? s : 3);
 }
 
 int main(void)
@@ -121,6 +136,7 @@ int main(void)
     setvbuf(stdout, NULL, _IOLBF, 0);
 
     check("check", &one, loop, sizeof loop, SIZES, FINDINGS, VEXIL_ACCEPTED, 1);
+    check("check, stored", &one, stored, sizeof stored, SIZES, FINDINGS, VEXIL_ACCEPTED, 1);
     check("check, exact tables", &one, loop, sizeof loop, 9, 6, VEXIL_ACCEPTED, 1);
     check("check, a byte less", &one, loop, sizeof loop - 1, SIZES, FINDINGS, VEXIL_REFUSED_CUT, 25);
     check("check, another image", &one, long_form, sizeof long_form, SIZES, FINDINGS, VEXIL_REFUSED_FORM, 1);
@@ -148,6 +164,7 @@ int main(void)
     read("read, all null", &one, NULL, 0, 0, VEXIL_REFUSED_CUT, 0);
 
     check("check two", &two, loop_two, sizeof loop_two, SIZES, FINDINGS, VEXIL_ACCEPTED, 1);
+    check("check two, stored", &two, stored_two, sizeof stored_two, SIZES, FINDINGS, VEXIL_ACCEPTED, 1);
     check("check two, exact tables", &two, loop_two, sizeof loop_two, 9, 6, VEXIL_ACCEPTED, 1);
     check("check two, a byte less", &two, loop_two, sizeof loop_two - 1, SIZES, FINDINGS, VEXIL_REFUSED_CUT, 31);
     check("check two, another image", &two, long_form, sizeof long_form, SIZES, FINDINGS, VEXIL_REFUSED_FORM, 1);
@@ -171,6 +188,34 @@ int main(void)
     read("read, edition two", &one, loop_two, sizeof loop_two, STARTS, VEXIL_REFUSED_RANGE, 10);
     check("check two, edition one", &two, loop, sizeof loop, SIZES, FINDINGS, VEXIL_REFUSED_CUT, 26);
     read("read two, edition one", &two, loop, sizeof loop, STARTS, VEXIL_REFUSED_CUT, 26);
+
+    check("check aligned", &aligned, loop, sizeof loop, SIZES, FINDINGS, VEXIL_ACCEPTED, 1);
+    check("check aligned, exact tables", &aligned, loop, sizeof loop, 9, 6, VEXIL_ACCEPTED, 1);
+    check("check aligned, a byte less", &aligned, loop, sizeof loop - 1, SIZES, FINDINGS, VEXIL_REFUSED_CUT, 25);
+    check("check aligned, another image", &aligned, long_form, sizeof long_form, SIZES, FINDINGS, VEXIL_REFUSED_FORM, 1);
+    check("check aligned, short sizes", &aligned, loop, sizeof loop, 8, FINDINGS, VEXIL_REFUSED_SIZES, 0);
+    check("check aligned, short findings", &aligned, loop, sizeof loop, SIZES, 5, VEXIL_REFUSED_FINDINGS, 0);
+    check("check aligned, stored", &aligned, stored, sizeof stored, SIZES, FINDINGS, VEXIL_REFUSED_STORED, 1);
+    check("check aligned, stored, short sizes", &aligned, stored, sizeof stored, 8, FINDINGS, VEXIL_REFUSED_STORED, 1);
+    check("check aligned, large", &aligned, large, sizeof large, SIZES, FINDINGS, VEXIL_REFUSED_SUM, 1);
+    check("check aligned, null image", &aligned, NULL, 0, SIZES, FINDINGS, VEXIL_REFUSED_CUT, 0);
+    check("check aligned, null sizes", &aligned, loop, sizeof loop, 0, FINDINGS, VEXIL_REFUSED_SIZES, 0);
+    check("check aligned, null findings", &aligned, loop, sizeof loop, SIZES, 0, VEXIL_REFUSED_FINDINGS, 0);
+    check("check aligned, all null", &aligned, NULL, 0, 0, 0, VEXIL_REFUSED_CUT, 0);
+
+    check("check aligned two", &aligned_two, loop_two, sizeof loop_two, SIZES, FINDINGS, VEXIL_ACCEPTED, 1);
+    check("check aligned two, exact tables", &aligned_two, loop_two, sizeof loop_two, 9, 6, VEXIL_ACCEPTED, 1);
+    check("check aligned two, a byte less", &aligned_two, loop_two, sizeof loop_two - 1, SIZES, FINDINGS, VEXIL_REFUSED_CUT, 31);
+    check("check aligned two, another image", &aligned_two, long_form, sizeof long_form, SIZES, FINDINGS, VEXIL_REFUSED_FORM, 1);
+    check("check aligned two, short sizes", &aligned_two, loop_two, sizeof loop_two, 8, FINDINGS, VEXIL_REFUSED_SIZES, 0);
+    check("check aligned two, short findings", &aligned_two, loop_two, sizeof loop_two, SIZES, 5, VEXIL_REFUSED_FINDINGS, 0);
+    check("check aligned two, stored", &aligned_two, stored_two, sizeof stored_two, SIZES, FINDINGS, VEXIL_REFUSED_STORED, 1);
+    check("check aligned two, stored, short sizes", &aligned_two, stored_two, sizeof stored_two, 8, FINDINGS, VEXIL_REFUSED_STORED, 1);
+    check("check aligned two, large", &aligned_two, large_two, sizeof large_two, SIZES, FINDINGS, VEXIL_REFUSED_SUM, 1);
+    check("check aligned two, null image", &aligned_two, NULL, 0, SIZES, FINDINGS, VEXIL_REFUSED_CUT, 0);
+    check("check aligned two, null sizes", &aligned_two, loop_two, sizeof loop_two, 0, FINDINGS, VEXIL_REFUSED_SIZES, 0);
+    check("check aligned two, null findings", &aligned_two, loop_two, sizeof loop_two, SIZES, 0, VEXIL_REFUSED_FINDINGS, 0);
+    check("check aligned two, all null", &aligned_two, NULL, 0, 0, 0, VEXIL_REFUSED_CUT, 0);
 
     printf("exports: %d calls, %d differences\n", calls, wrong);
     return wrong != 0;

@@ -1,18 +1,19 @@
-//! The enumerator of lengths: each length rule of document 01 by hand, and
-//! wrong sizes that it has to tell.
+//! The enumerator of lengths: each length rule of document 01 by hand, what the
+//! head board changes, and wrong sizes that it has to tell.
 
 mod wrong_sizes;
 
 use std::sync::OnceLock;
 
 use oracle::answer::{Answer, Whole};
-use oracle::format::Edition;
+use oracle::format::{Edition, Entry, Layout};
 use oracle::import::import;
+use oracle::ir::CompiledSchema;
 use oracle::lengths::clauses::{Clause, Facts, Proviso, Tally, Truth, Violation};
 use oracle::lengths::rules::lengths_of_slots;
 use oracle::lengths::set::{Lengths, HORIZON};
 use oracle::lengths::{run, schema, subjects, Broken, Subject, Table};
-use oracle::library::{Library, Sizer, Verdict, REFERENCE};
+use oracle::library::{Library, Sizer, Verdict, REFERENCE, REFERENCE_ALIGNED};
 use oracle::model::{
     declared, field, fixed, live, message, pair, union, wrap, Encoding, Field, Schema, Slot,
     Stored, Tree, ARRAY, BOOL, MAP, MAT4, OPTIONAL, RESULT, SET, U32, U8, VEC2, VEC3, VOID,
@@ -24,9 +25,17 @@ const SEED: u64 = 1;
 /// A type that names its own slot, the message 0, has this part.
 const ITSELF: Tree = Tree::Named(0);
 
+fn compiled(schema: &Schema) -> CompiledSchema {
+    let imported = import(&schema.bytes(Edition::One), Edition::One);
+    imported.expect("an accepted image").schema
+}
+
+fn facts(schema: &Schema) -> Facts {
+    Facts::of(&compiled(schema), Layout::Packed)
+}
+
 fn all(schema: &Schema) -> Vec<Lengths> {
-    let imported = import(&schema.bytes(Edition::One), Edition::One).expect("an accepted image");
-    lengths_of_slots(&imported.schema)
+    lengths_of_slots(&compiled(schema), Layout::Packed)
 }
 
 fn first(slots: Vec<Slot>) -> Lengths {
@@ -210,6 +219,42 @@ fn values_are_finite() {
     assert_eq!(first(vec![ends]), lengths);
 }
 
+/// On the head board each field of a message or variant takes whole bytes, and
+/// nothing else does.
+#[test]
+fn fields_are_rounded() {
+    let first = |slots: Vec<Slot>| {
+        let schema = compiled(&declared(vec![0; 3], slots));
+        lengths_of_slots(&schema, Layout::Aligned)[0]
+    };
+    let of = |tree: Tree| first(vec![message(0, vec![field(0, tree)])]);
+    assert_eq!(of(VOID), these([0]));
+    assert_eq!(of(BOOL), these([8]));
+    assert_eq!(of(wrap(OPTIONAL, BOOL)), these([8]));
+    assert_eq!(of(wrap(OPTIONAL, U8)), these([8, 16]));
+    assert_eq!(of(fixed(BOOL, 9)), these([16]), "parts are not");
+    assert_eq!(of(fixed(wrap(OPTIONAL, BOOL), 9)), these([16, 24]));
+    let mut any: Lengths = (0..HORIZON / 8).map(|bytes| 8 * bytes).collect();
+    any.put(HORIZON);
+    assert_eq!(of(Tree::Semantic(0)), any);
+    let each = vec![field(0, BOOL), field(0, wrap(OPTIONAL, U8))];
+    assert_eq!(first(vec![message(0, each.clone())]), these([16, 24]));
+    let variants = vec![vec![field(0, BOOL)], each, vec![]];
+    assert_eq!(first(vec![union(variants)]), these([8, 16, 24, 32]));
+    assert_eq!(first(vec![union(vec![])]), these([8]));
+    // A message inside a type has whole bytes of its own.
+    let inner = message(1, vec![field(0, BOOL)]);
+    let named = fixed(Tree::Named(1), 3);
+    let outer = message(0, vec![field(0, wrap(OPTIONAL, named))]);
+    assert_eq!(first(vec![outer, inner]), these([8, 32]));
+    // A list: 16 for its end, 8 + the bytes of 1 + the rest for each part more.
+    let next = wrap(OPTIONAL, ITSELF);
+    let list = message(0, vec![field(0, Tree::SubByte(0, 3)), field(0, next)]);
+    let mut lengths: Lengths = (1..HORIZON / 16).map(|parts| 16 * parts).collect();
+    lengths.put(HORIZON);
+    assert_eq!(first(vec![list]), lengths);
+}
+
 #[test]
 fn sizes_brought_do_not_count() {
     let mut brings = message(1, vec![field(0, U8)]);
@@ -228,6 +273,13 @@ fn sums_and_shifts_at_the_horizon() {
     assert_eq!(last.plus(&Lengths::one(0)), last);
     assert_eq!(last.plus(&Lengths::NONE), Lengths::NONE);
     assert_eq!(Lengths::one(HORIZON).plus(&Lengths::NONE), Lengths::NONE);
+    assert_eq!(last.in_bytes(), Lengths::one(HORIZON));
+    assert_eq!(Lengths::one(HORIZON).in_bytes(), Lengths::one(HORIZON));
+    assert_eq!(
+        Lengths::one(HORIZON - 8).in_bytes().ends(),
+        Some((HORIZON - 8, HORIZON - 8))
+    );
+    assert_eq!(Lengths::NONE.in_bytes(), Lengths::NONE);
     assert_eq!(last.has(HORIZON), Some(false));
     assert_eq!(Lengths::one(HORIZON).has(HORIZON), None);
 }
@@ -253,20 +305,34 @@ fn sums_are_all_pairs() {
     }
 }
 
-/// Schemas, facts and the Rust's tables, made once for all wrong sizes.
-fn prepared() -> &'static [(Schema, Facts, Vec<u64>)] {
-    static ALL: OnceLock<Vec<(Schema, Facts, Vec<u64>)>> = OnceLock::new();
-    ALL.get_or_init(|| {
+/// A schema, what its lengths say in a layout, and the table worked out here.
+struct Prepared {
+    schema: Schema,
+    facts: Facts,
+    sizes: Vec<u64>,
+}
+
+/// Made once for all wrong sizes.
+fn prepared(layout: Layout) -> &'static [Prepared] {
+    static PACKED: OnceLock<Vec<Prepared>> = OnceLock::new();
+    static ALIGNED: OnceLock<Vec<Prepared>> = OnceLock::new();
+    let (all, entry) = match layout {
+        Layout::Packed => (&PACKED, Entry::ONE),
+        Layout::Aligned => (&ALIGNED, Entry::ALIGNED),
+    };
+    all.get_or_init(|| {
         let one = |number| {
-            let schema = schema(SEED, number);
-            let image = schema.bytes(Edition::One);
-            let imported = import(&image, Edition::One).expect("an accepted image");
-            let answer =
-                Whole::sizes_of(&image, Edition::One).sizes_answer(3 * schema.slots.len() as u64);
+            let schema = schema(SEED, number, layout);
+            let whole = Whole::sizes_of(&schema.bytes(Edition::One), entry);
+            let answer = whole.sizes_answer(3 * schema.slots.len() as u64);
             let Ok(Answer::Accepted { sizes, .. }) = answer else {
                 panic!("{answer:?}");
             };
-            (schema, Facts::of(&imported.schema), sizes)
+            Prepared {
+                facts: Facts::of(&compiled(&schema), layout),
+                schema,
+                sizes,
+            }
         };
         (0..6_000).map(one).collect()
     })
@@ -274,15 +340,18 @@ fn prepared() -> &'static [(Schema, Facts, Vec<u64>)] {
 
 #[test]
 fn right_sizes_are_the_rusts() {
-    for (schema, _, sizes) in prepared() {
-        assert_eq!(&table(schema, Wrong::Nothing), sizes, "{schema:?}");
+    for layout in Layout::ALL {
+        for Prepared { schema, sizes, .. } in prepared(layout) {
+            let table = table(schema, layout, Wrong::Nothing);
+            assert_eq!(&table, sizes, "{schema:?}");
+        }
     }
 }
 
-fn found(wrong: Wrong) -> Vec<Violation> {
-    let judged = prepared().iter().filter_map(|(schema, facts, _)| {
-        let table = table(schema, wrong);
-        facts.judge(&table, &mut Tally::default())
+fn found(layout: Layout, wrong: Wrong) -> Vec<Violation> {
+    let judged = prepared(layout).iter().filter_map(|one| {
+        let table = table(&one.schema, layout, wrong);
+        one.facts.judge(&table, &mut Tally::default())
     });
     judged.collect()
 }
@@ -290,17 +359,42 @@ fn found(wrong: Wrong) -> Vec<Violation> {
 #[test]
 fn wrong_sizes_are_told() {
     for &wrong in Wrong::ALL {
-        let found = found(wrong);
+        let found = found(Layout::Packed, wrong);
         let told = found.len();
         let right = wrong == Wrong::Nothing || NOT_ASKED.contains(&wrong);
         assert_eq!(told == 0, right, "{wrong:?}: {told} {:?}", found.first());
         println!("{wrong:?}: {told}");
         if NOT_ASKED.contains(&wrong) {
-            let differs =
-                |(schema, _, sizes): &(Schema, Facts, Vec<u64>)| &table(schema, wrong) != sizes;
-            assert!(prepared().iter().any(differs), "{wrong:?}");
+            let differs = |one: &Prepared| table(&one.schema, Layout::Packed, wrong) != one.sizes;
+            assert!(prepared(Layout::Packed).iter().any(differs), "{wrong:?}");
         }
     }
+}
+
+#[test]
+fn wrong_rounding_is_told() {
+    assert_eq!(found(Layout::Aligned, Wrong::Nothing), []);
+    for &wrong in Wrong::OF_ROUNDING {
+        let told = found(Layout::Aligned, wrong).len();
+        println!("{wrong:?}: {told}");
+        assert!(told > 0, "{wrong:?}");
+    }
+}
+
+/// Lengths that are not rounded do not go with sizes that are, nor the other
+/// way round.
+#[test]
+fn lengths_go_with_their_layout() {
+    let told = |lengths: Layout, sizes: Layout| {
+        let broken = prepared(sizes).iter().filter(|one| {
+            let facts = Facts::of(&compiled(&one.schema), lengths);
+            facts.judge(&one.sizes, &mut Tally::default()).is_some()
+        });
+        broken.count()
+    };
+    assert_eq!(told(Layout::Aligned, Layout::Aligned), 0);
+    assert!(told(Layout::Packed, Layout::Aligned) > 1_000);
+    assert!(told(Layout::Aligned, Layout::Packed) > 1_000);
 }
 
 /// Each clause is the one that tells some wrong size.
@@ -315,12 +409,12 @@ fn each_clause_tells_one() {
     ];
     for (wrong, clause) in wrong {
         let told = |one: &Violation| one.clause == Some(clause);
-        assert!(found(wrong).iter().any(told), "{wrong:?} by {clause:?}");
+        let found = found(Layout::Packed, wrong);
+        assert!(found.iter().any(told), "{wrong:?} by {clause:?}");
     }
     // A type without lengths: its row is enclosing whatever it says.
     let schema = declared(vec![0], vec![message(0, vec![field(0, ITSELF)])]);
-    let imported = import(&schema.bytes(Edition::One), Edition::One).expect("an accepted image");
-    let facts = Facts::of(&imported.schema);
+    let facts = facts(&schema);
     let judged = facts.judge(&[2, 5, 3], &mut Tally::default());
     assert_eq!(judged.map(|one| one.clause), Some(Some(Clause::Order)));
     assert_eq!(facts.judge(&[3, 0, 0], &mut Tally::default()), None);
@@ -339,11 +433,7 @@ fn provisos_are_decided() {
             slots: vec![slot, user],
             declarations: vec![1],
         };
-        Facts::of(
-            &import(&schema.bytes(Edition::One), Edition::One)
-                .expect("an accepted image")
-                .schema,
-        )
+        facts(&schema)
     };
     let sizes = [
         (Stored::Bounded(1, 9), Truth::Yes, true),
@@ -375,12 +465,7 @@ fn leading_back_follows_parts() {
             ..field(0, tree)
         };
         let schema = declared(vec![0], vec![message(0, vec![field])]);
-        Facts::of(
-            &import(&schema.bytes(Edition::One), Edition::One)
-                .expect("an accepted image")
-                .schema,
-        )
-        .back[0]
+        facts(&schema).back[0]
     };
     for tree in [
         ITSELF,
@@ -406,12 +491,7 @@ fn leading_back_follows_parts() {
         message(1, vec![field(0, wrap(OPTIONAL, Tree::Named(1)))]),
     ];
     let schema = declared(vec![0], slots);
-    let facts = Facts::of(
-        &import(&schema.bytes(Edition::One), Edition::One)
-            .expect("an accepted image")
-            .schema,
-    );
-    assert_eq!(facts.back, [true, true]);
+    assert_eq!(facts(&schema).back, [true, true]);
 }
 
 fn reference(image: &[u8], sizes: &mut [u64]) -> Verdict {
@@ -429,7 +509,8 @@ fn broken_by(sizes: Sizer) -> Broken {
         name: "wrong",
         table: Table::Sizes(library),
     };
-    run(400, SEED, &[subject]).broken.expect("it is told")
+    let summary = run(400, SEED, Layout::Packed, &[subject]);
+    summary.broken.expect("it is told")
 }
 
 #[test]
@@ -455,12 +536,35 @@ fn a_wrong_library_is_told_by_a_small_image() {
 #[test]
 fn the_rust_meets_demand_three() {
     let count = 3_000;
-    let summary = run(count, 9, &subjects(None));
-    assert!(summary.broken.is_none(), "{:?}", summary.broken);
-    assert_eq!(summary.too_low(count), Vec::<String>::new());
-    let (_, tally) = &summary.small.tallies[0];
-    for proviso in Proviso::ALL {
-        assert!(tally.needed[proviso as usize] > 0, "{proviso:?}");
+    for layout in Layout::ALL {
+        let summary = run(count, 9, layout, &subjects(layout, None));
+        assert!(summary.broken.is_none(), "{:?}", summary.broken);
+        assert_eq!(summary.too_low(count, layout), Vec::<String>::new());
+        let (_, tally) = &summary.small.tallies[0];
+        for proviso in Proviso::ALL {
+            // Where no size is brought, nothing hangs on those that are.
+            let needed = layout == Layout::Packed || proviso == Proviso::NotBack;
+            assert_eq!(tally.needed[proviso as usize] > 0, needed, "{proviso:?}");
+        }
+        assert!(tally.held.iter().all(|&held| held > 0), "{tally:?}");
     }
-    assert!(tally.held.iter().all(|&held| held > 0), "{tally:?}");
+}
+
+/// A library that packs on the head board is told by a small image, and so is
+/// one that rounds elsewhere.
+#[test]
+fn a_library_of_the_other_layout_is_told() {
+    for (layout, library) in [
+        (Layout::Aligned, REFERENCE),
+        (Layout::Packed, REFERENCE_ALIGNED),
+    ] {
+        let subject = Subject {
+            name: "wrong",
+            table: Table::Check(library),
+        };
+        let broken = run(400, SEED, layout, &[subject]).broken;
+        let broken = broken.expect("it is told");
+        // At most one slot, declared: a message of one Bool.
+        assert!(broken.image.len() <= 14, "{:?}", broken.image);
+    }
 }

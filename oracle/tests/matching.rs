@@ -7,7 +7,7 @@ use std::ops::ControlFlow;
 use oracle::answer::{each_wanted, type_kind, type_parts, Wanted, Whole};
 use oracle::ast::TypeExpr;
 use oracle::compare::{compare, each_image, Selection};
-use oracle::format::Edition;
+use oracle::format::{Edition, Entry};
 use oracle::generate::Families;
 use oracle::import::import;
 use oracle::ir::{CompiledSchema, GenericAliasDef, ResolvedType, TraitDef, TypeDef};
@@ -20,7 +20,7 @@ const SELECTION: Selection = Selection {
     count: 4_000,
     seed: 11,
     families: Families::All,
-    edition: Edition::One,
+    entry: Entry::ONE,
 };
 
 /// A wrong rule for types that are held against each other. Numbers are kinds.
@@ -175,7 +175,7 @@ fn recorded_images() -> Vec<Vec<u8>> {
         count: 1_500,
         seed: 7,
         families: Families::All,
-        edition: Edition::One,
+        entry: Entry::ONE,
     };
     let mut file = Vec::new();
     record_lines(selection, &mut file).expect("a Vec takes all");

@@ -46,7 +46,10 @@ fn pages() -> Vec<(String, String)> {
         }
     }
     pages.sort();
-    pages.into_iter().map(|page| (page.clone(), text(page))).collect()
+    pages
+        .into_iter()
+        .map(|page| (page.clone(), text(page)))
+        .collect()
 }
 
 /// What stands between backticks on one line.
@@ -55,7 +58,10 @@ fn quoted(line: &str) -> Vec<&str> {
 }
 
 fn is_word(word: &str) -> bool {
-    !word.is_empty() && word.chars().all(|c| c.is_alphanumeric() || "_-′'".contains(c))
+    !word.is_empty()
+        && word
+            .chars()
+            .all(|c| c.is_alphanumeric() || "_-′'".contains(c))
 }
 
 const ENDINGS: [&str; 9] = [
@@ -71,7 +77,9 @@ fn files_are_there() {
     for (page, content) in pages() {
         for line in content.lines() {
             for word in quoted(line) {
-                let plain = word.chars().all(|c| c.is_alphanumeric() || "_-./+".contains(c));
+                let plain = word
+                    .chars()
+                    .all(|c| c.is_alphanumeric() || "_-./+".contains(c));
                 if !plain || !ENDINGS.iter().any(|ending| word.ends_with(ending)) {
                     continue;
                 }
@@ -152,7 +160,10 @@ fn edits_are_there() {
 fn names_are_there() {
     let mut all = String::new();
     for path in all_files() {
-        if ["antt", "rt", "rs", "h", "c"].iter().any(|&kind| path.extension() == Some(kind.as_ref())) {
+        if ["antt", "rt", "rs", "h", "c"]
+            .iter()
+            .any(|&kind| path.extension() == Some(kind.as_ref()))
+        {
             all += &fs::read_to_string(path).expect("a source");
         }
     }
@@ -167,7 +178,10 @@ fn names_are_there() {
                 let plain = known.contains(word) || root().join("crates").join(word).exists();
                 let family = all.contains(&format!("\"{word}\""));
                 let edit = line.contains("ust-fail");
-                assert!(plain || family || edit, "{page} names `{word}`, which no source has: {line}");
+                assert!(
+                    plain || family || edit,
+                    "{page} names `{word}`, which no source has: {line}"
+                );
             }
         }
     }

@@ -6,7 +6,7 @@ use std::sync::atomic::{AtomicU64, Ordering};
 
 use oracle::answer::{answer, lines, PROGRAM_PLACES};
 use oracle::compare::Selection;
-use oracle::format::Edition;
+use oracle::format::{Edition, Entry};
 use oracle::generate::findings::many_findings;
 use oracle::generate::{family_named, Families};
 use oracle::program::{run, Fault};
@@ -18,7 +18,7 @@ const SELECTION: Selection = Selection {
     count: 200,
     seed: 2,
     families: Families::All,
-    edition: Edition::One,
+    entry: Entry::ONE,
 };
 
 fn oracle(command: &str) -> Command {
@@ -84,8 +84,8 @@ fn a_signal_is_known_or_a_failure() {
     let deep = Selection {
         count: 2,
         seed: 5,
-        families: Families::One(family_named("deep", Edition::One).expect("a family")),
-        edition: Edition::One,
+        families: Families::One(family_named("deep", Entry::ONE).expect("a family")),
+        entry: Entry::ONE,
     };
     let answers = format!("exec {} answer", env!("CARGO_BIN_EXE_oracle"));
 

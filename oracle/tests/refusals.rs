@@ -2,37 +2,37 @@
 //! sizes worked out here equal the upstream ones on all of them.
 
 use oracle::compare::Selection;
-use oracle::format::Edition;
-use oracle::generate::{batch, in_edition, Families};
+use oracle::format::Entry;
+use oracle::generate::{batch, families, Families};
 use oracle::survey::survey;
-use oracle::tally::NUMBERS;
+use oracle::tally::numbers;
 
 #[test]
 fn every_answer_is_met() {
-    for edition in Edition::ALL {
+    for entry in Entry::ALL {
         let selection = Selection {
             count: 60_000,
             seed: 11,
             families: Families::All,
-            edition,
+            entry,
         };
         let survey = survey(selection);
         assert_eq!(survey.failed, None);
         assert_eq!(survey.tally.images(), selection.count);
         let totals = survey.tally.totals();
-        for number in NUMBERS {
+        for &number in numbers(entry.layout) {
             assert!(totals[number] > 0, "no image is answered {number}");
         }
-        assert_eq!(survey.tally.below_floor(edition), [""; 0]);
+        assert_eq!(survey.tally.below_floor(entry), [""; 0]);
     }
 }
 
 #[test]
 fn every_family_gives_images() {
-    for edition in Edition::ALL {
-        for (index, family) in in_edition(edition).iter().enumerate() {
+    for entry in Entry::ALL {
+        for (number, family) in families(entry) {
             let mut images = 0;
-            batch(5, 0, Families::One(index), edition, |_, _| images += 1);
+            batch(5, 0, Families::One(number), entry, |_, _| images += 1);
             assert!(images > 0, "{}", family.name);
         }
     }
@@ -42,7 +42,7 @@ fn every_family_gives_images() {
 fn a_batch_is_told_by_seed_and_number() {
     let images = |number| {
         let mut images = Vec::new();
-        batch(9, number, Families::All, Edition::One, |_, image| {
+        batch(9, number, Families::All, Entry::ONE, |_, image| {
             images.push(image.to_vec())
         });
         images

@@ -3,7 +3,7 @@
 use oracle::answer::{answer, lines, PROGRAM_PLACES};
 use oracle::example::bond_report;
 use oracle::export::{export, Unfit};
-use oracle::format::Edition;
+use oracle::format::{Edition, Entry};
 use oracle::generate::{batch, Families};
 use oracle::import::import;
 use oracle::ir::{CompiledSchema, ResolvedType, TypeDef, WireSize};
@@ -53,7 +53,7 @@ fn accepted_images_come_back() {
 
 fn images_come_back() {
     for number in 0..4_000 {
-        batch(21, number, Families::All, Edition::One, |_, image| {
+        batch(21, number, Families::All, Entry::ONE, |_, image| {
             if let Ok(imported) = import(image, Edition::One) {
                 let once = export(&imported.schema, Edition::One).expect("what was read fits");
                 let again = import(&once, Edition::One).expect("accepted again");

@@ -25,6 +25,11 @@ unfoldable pub lowest : (ℕ → Bool) → (left from : ℕ) → Lowest
 lowest p zero i = Lowest.Nowhere
 lowest p (suc n) i = cond (p i) (Lowest.At i) (lowest p n (suc i))
 
+-- an answer that names the lowest where there is one, else another
+abbrev pub ifFound : {A : Type 0} → (ℕ → A) → Lowest → A → A
+ifFound named (Lowest.At i) other = named i
+ifFound named Lowest.Nowhere other = other
+
 -- the lowest number below n that leads back to itself
 abbrev pub lowestLooped : Leads → (n : ℕ) → Lowest
 lowestLooped e n = lowest (λ i. via e n i i) n 0

@@ -1,11 +1,12 @@
 // Sizes made of sizes, by value. A number that passes the limit 2^63 - 1 is cut to 2^63, which passes it as well.
+use sizes::Layout;
 use sizes::Operation;
 use sizes::Size;
 use sizes::Worked;
 ghost use mathlib.Core.Path.{_≡_};
 ghost use Prim.Native.Nat.{_+_, _*_, _^_, min, max};
 ghost use Rattle.tree.specs.Tree.{leaf};
-ghost use Rattle.sizes.specs.Sizes.{smallest, largest, variable, both, limited, limitedSum, limitedProduct, Resolver, leafSize, countOf, wrapSize, primitiveBits, semanticBits, fixedOrOpen, optionalSize, multiplied, withoutLargest, widened, raised, added, varintEnd, zigZagEnd};
+ghost use Rattle.sizes.specs.Sizes.{smallest, largest, variable, both, limited, limitedSum, limitedProduct, then, toBytes, rounded, laid, Resolver, leafSize, countOf, wrapSize, primitiveBits, semanticBits, fixedOrOpen, optionalSize, multiplied, withoutLargest, widened, raised, added, varintEnd, zigZagEnd};
 ghost use Rattle.measures.specs.Cut.{cutSum, highOf};
 ghost use Rattle.measures.specs.Heads.{leafOf, wrapOf};
 
@@ -38,6 +39,17 @@ fn product(x: u64, count: u64) -> u64
         9223372036854775808
     } else {
         x * count
+    }
+}
+
+// The next multiple of 8, cut.
+fn round_up(x: u64) -> u64
+    ensures { λ r. ⌜ r ≡ min (toBytes x) (2 ^ 63) ⌝ }
+{
+    if x > 9223372036854775807 {
+        9223372036854775808
+    } else {
+        (x + 7) / 8 * 8
     }
 }
 
@@ -322,4 +334,29 @@ pub fn tag(extremes: Size) -> Worked
     ensures { λ r. ⌜ r ≡ limitedSum (raised 8 extremes) ⌝ }
 {
     raise(8, extremes)
+}
+
+// Both ends on whole bytes. It counts as a sum.
+fn round_wire_size(size: Size) -> Worked
+    ensures { λ r. ⌜ r ≡ limitedSum (rounded toBytes size) ⌝ }
+{
+    match size {
+        Size::Fixed(b) => within_limit(Operation::Sum, Size::Fixed(round_up(b))),
+        Size::Bounded(l, h) => {
+            let low = round_up(l);
+            let high = round_up(h);
+            within_limit(Operation::Sum, Size::Bounded(low, high))
+        }
+        Size::Open(l) => within_limit(Operation::Sum, Size::Open(round_up(l))),
+    }
+}
+
+// A field as the head board adds it.
+pub fn round_field(field: Worked) -> Worked
+    ensures { λ r. ⌜ r ≡ then field (laid Layout.Aligned) ⌝ }
+{
+    match field {
+        Worked::Sized(size) => round_wire_size(size),
+        Worked::Over(by) => Worked::Over(by),
+    }
 }

@@ -8,7 +8,7 @@ use Rattle.number.specs.Grammar.{Outcome, done, refused}
 use Rattle.tree.specs.declared.Sort.the-variants.{Resolved, Expression}
 use Rattle.slot.specs.Slot.{Slot, empty, message, enum, flags, union, newtype, config, alias, trait, impl}
 use Rattle.slot.specs.declared.Edition.{Edition}
-use Rattle.graph.specs.Ways.{lowest}
+use Rattle.graph.specs.Ways.{lowest, ifFound}
 use Rattle.graph.specs.declared.Lowest.{Lowest}
 use Rattle.image.specs.Schema.{Schema, slotOf}
 use Rattle.image.specs.Image.{Image, imageOf, schemaIn, frameIn, startsOf}
@@ -39,8 +39,7 @@ lostName finds slots = lowest (λ n. lost slots (getD finds n 0)) (length finds)
 
 -- a refusal where something was found, else what comes after
 abbrev pub orRefuse : (number : ℕ) → Lowest → Reading → Reading
-orRefuse r (Lowest.At p) after = Reading.Refused r p
-orRefuse r Lowest.Nowhere after = after
+orRefuse r found after = ifFound (Reading.Refused r) found after
 
 -- refusals 7, 8 and 9 in their order: loops of newtypes by terminal types, and of aliases by generics
 unfoldable pub judged : Schema → Frame → Reading

@@ -14,6 +14,7 @@ use Rattle.findings.specs.Findings.{findingsOf}
 use Rattle.turns.specs.Sizing.{sizingOf, sizesOf}
 use Rattle.turns.specs.declared.Sizing.{Sizing}
 use Rattle.slot.specs.declared.Edition.the-variants.{One}
+use Rattle.turns.specs.declared.Entry.the-variants.{Ordinary}
 use Rattle.reader.specs.Reading.{schemaOf}
 use Rattle.image.specs.Schema.{Schema}
 use Rattle.typeck.specs.Check.{judged, verdictIn, verdictOf, onAccepted, sizeTable, findingTable, Answered}
@@ -43,32 +44,32 @@ unfolding verdictIn
 few-in q S (Sizing.Refused r p) = omega arith
 few-in q S Sizing.Accepted = judged-few q S
 
-few : (p q : ℕ) (s : List ℕ) → 6 * countOf (verdictOf One p q s) ≤ q
+few : (p q : ℕ) (s : List ℕ) → 6 * countOf (verdictOf Ordinary One p q s) ≤ q
 unfolding verdictOf
-few p q s = few-in q (schemaOf One s) (sizingOf One p s)
+few p q s = few-in q (schemaOf One s) (sizingOf Ordinary One p s)
 
 -- both outcomes leave the table as long as it was
 answered-long : (v : Verdict) (p : ℕ) (t : List ℕ) → length t ≡ p → length (onAccepted v p t) ≡ p
 answered-long (Verdict.Accepted n) p t e = e
 answered-long (Verdict.Refused r i) p t e = fitted-length p []
 
-sizes-long : (p : ℕ) (s : List ℕ) → length (sizesOf One p s) ≡ p
+sizes-long : (p : ℕ) (s : List ℕ) → length (sizesOf Ordinary One p s) ≡ p
 unfolding sizesOf
 sizes-long p s = fitted-length p _
 
-table-long : (p q : ℕ) (s : List ℕ) → length (sizeTable One p q s) ≡ p
+table-long : (p q : ℕ) (s : List ℕ) → length (sizeTable Ordinary One p q s) ≡ p
 unfolding sizeTable
-table-long p q s = answered-long (verdictOf One p q s) p (sizesOf One p s) (sizes-long p s)
+table-long p q s = answered-long (verdictOf Ordinary One p q s) p (sizesOf Ordinary One p s) (sizes-long p s)
 
 -- a check with places for 512 slots and 1,000 findings
 pub text-is : (s sizes a findings b : List ℕ) (v : Verdict) (p : ℕ) (out : List ℕ) (r : ℕ) → length sizes ≡ 1536 → length findings ≡ 6000
-    → Answered One s sizes a findings b v → VerdictWritten p v a b out r → Written p (textFor s) out r
+    → Answered Ordinary One s sizes a findings b v → VerdictWritten p v a b out r → Written p (textFor s) out r
 unfolding textFor
 text-is s sizes a findings b v p out r m n d w =
-    let x : v ≡ verdictOf One 1536 6000 s = d .answer ∙ ap (λ (k : ℕ). verdictOf One k (length findings) s) m ∙ ap (λ (k : ℕ). verdictOf One 1536 k s) n in
-    let y : a ≡ sizeTable One 1536 6000 s = d .sizeTable ∙ ap (λ (k : ℕ). sizeTable One k (length findings) s) m ∙ ap (λ (k : ℕ). sizeTable One 1536 k s) n in
-    let z : b ≡ findingTable One 1536 6000 s = d .findingTable ∙ ap (λ (k : ℕ). findingTable One k (length findings) s) m ∙ ap (λ (k : ℕ). findingTable One 1536 k s) n in
-    let t : textOf v a b ≡ textOf (verdictOf One 1536 6000 s) (sizeTable One 1536 6000 s) (findingTable One 1536 6000 s) = cc in
+    let x : v ≡ verdictOf Ordinary One 1536 6000 s = d .answer ∙ ap (λ (k : ℕ). verdictOf Ordinary One k (length findings) s) m ∙ ap (λ (k : ℕ). verdictOf Ordinary One 1536 k s) n in
+    let y : a ≡ sizeTable Ordinary One 1536 6000 s = d .sizeTable ∙ ap (λ (k : ℕ). sizeTable Ordinary One k (length findings) s) m ∙ ap (λ (k : ℕ). sizeTable Ordinary One 1536 k s) n in
+    let z : b ≡ findingTable Ordinary One 1536 6000 s = d .findingTable ∙ ap (λ (k : ℕ). findingTable Ordinary One k (length findings) s) m ∙ ap (λ (k : ℕ). findingTable Ordinary One 1536 k s) n in
+    let t : textOf v a b ≡ textOf (verdictOf Ordinary One 1536 6000 s) (sizeTable Ordinary One 1536 6000 s) (findingTable Ordinary One 1536 6000 s) = cc in
     let c = few 1536 6000 s in
     let l : length a ≡ 1536 = ap length y ∙ table-long 1536 6000 s in
     record {

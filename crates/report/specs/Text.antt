@@ -4,6 +4,7 @@ use mathlib.Core.List.{List}
 use lib.ListN.{length}
 use Rattle.lines.specs.Lines.{refusedText, acceptedText, Holds}
 use Rattle.slot.specs.declared.Edition.the-variants.{One}
+use Rattle.turns.specs.declared.Entry.the-variants.{Ordinary}
 use Rattle.typeck.specs.Check.{verdictOf, sizeTable, findingTable}
 use Rattle.typeck.specs.declared.Verdict.{Verdict}
 
@@ -13,7 +14,7 @@ textOf (Verdict.Refused number place) s f = refusedText number place
 
 -- the text for an image of edition one, with places for 512 slots and 1,000 findings
 unfoldable pub textFor : List ℕ → List ℕ
-textFor s = textOf (verdictOf One 1536 6000 s) (sizeTable One 1536 6000 s) (findingTable One 1536 6000 s)
+textFor s = textOf (verdictOf Ordinary One 1536 6000 s) (sizeTable Ordinary One 1536 6000 s) (findingTable Ordinary One 1536 6000 s)
 
 -- The contract of an inner function: a verdict's text in a buffer, and its length if there are at most 512 slots and 1,000
 -- findings.

@@ -3,3 +3,4 @@ pub mod Taking
 pub mod Marking
 pub mod Widths
 pub mod Slots
+pub mod Storing

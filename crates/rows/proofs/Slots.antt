@@ -6,7 +6,7 @@ use mathlib.Core.Bool.{Bool, true, false, cond}
 use mathlib.Core.Option.{some}
 use native.Mathlib.Omega.{arith}
 use lib.ListN.{getD}
-use Rattle.number.specs.Grammar.{Grammar, kind, count, value, _>>=_, number, many, counted, done, read}
+use Rattle.number.specs.Grammar.{Grammar, kind, count, value, give, _>>=_, number, many, counted, done, read}
 use Rattle.number.proofs.Reading.{read-done, given}
 use Rattle.tree.specs.TreeAt.{noKind}
 use Rattle.slot.specs.Field.{Span, spanAt, Stored, storedTable, storedAt, fieldsAt}
@@ -24,15 +24,18 @@ use Rattle.reader.proofs.Fetching.{part-behind, not-missing}
 use Rattle.sizes.specs.Widths.{highest, enumBits, bytesTo, flagsBytes, enumBitsAt, flagsBytesAt}
 use Rattle.sizes.specs.declared.Size.the-variants.{Fixed, Bounded, Open}
 use Rattle.sizes.specs.Names.{State}
-use Rattle.sizes.specs.Check.{sizeIn, broughtIn, brought, row, sizeRow, slotRow}
+use Rattle.sizes.specs.Check.{sizeIn, broughtIn, brought, isThere, row, sizeRow, slotRow}
 use Rattle.sizes.specs.Demand.{Sizable, isMessage, isUnion}
 use Rattle.sizes.specs.Table.{sizable-row}
-use Rattle.rows.specs.Rows.{numbers, Takes, RowIs}
+use Rattle.rows.specs.Rows.{numbers, Takes, RowIs, BringsIs}
 use Rattle.rows.specs.declared.Row.{Row}
 use Rattle.rows.proofs.Taking.{take-on}
 
 brings : {y z : Stored} → y ≡ z → sizeRow (sizeIn y) ≡ sizeRow (sizeIn z)
 brings e = ap (λ (x : Stored). sizeRow (sizeIn x)) e
+
+there : {y z : Stored} → y ≡ z → isThere (sizeIn y) ≡ isThere (sizeIn z)
+there e = ap (λ (x : Stored). isThere (sizeIn x)) e
 
 -- a kind of stored size that holds no number
 none-stored : (s : List ℕ) (n : ℕ) (z : Stored) (end k : ℕ) → read (getD storedTable k noKind) s n ≡ done z end
@@ -43,6 +46,17 @@ none-stored s n z end (suc zero) e a b c = absurd (a refl)
 none-stored s n z end (suc (suc zero)) e a b c = absurd (b refl)
 none-stored s n z end (suc (suc (suc zero))) e a b c = absurd (c refl)
 none-stored s n z end (suc (suc (suc (suc k)))) e a b c = let y : _≡_ {A = ℕ} 0 1 = cc in absurd (omega arith)
+
+-- and one that holds some
+some-stored : (s : List ℕ) (n : ℕ) (z : Stored) (end k : ℕ) → read (getD storedTable k noKind) s n ≡ done z end → ¬ (k ≡ 0) → true ≡ isThere (sizeIn z)
+unfolding read _>>=_
+some-stored s n z end zero e a = absurd (a refl)
+some-stored s n z end (suc zero) e a = there (given (read-done (number value (2 ^ 63)) (λ b. give (Stored.fixed b)) s n z end e .rest) .0)
+some-stored s n z end (suc (suc zero)) e a = there (given (read-done (number value (2 ^ 63)) (λ l. give (Stored.from l)) s n z end e .rest) .0)
+some-stored s n z end (suc (suc (suc zero))) e a =
+    let p = read-done (number value (2 ^ 63)) (λ l. _>>=_ (number value (2 ^ 63)) (λ h. give (Stored.bounded l h))) s n z end e in
+    there (given (read-done (number value (2 ^ 63)) (λ h. give (Stored.bounded (p .first) h)) s (p .middle) z end (p .rest) .rest) .0)
+some-stored s n z end (suc (suc (suc (suc k)))) e a = let y : _≡_ {A = ℕ} 0 1 = cc in absurd (omega arith)
 
 module _ (s : List ℕ) (at : ℕ) where
   -- ## Spans and stored sizes
@@ -69,6 +83,13 @@ module _ (s : List ℕ) (at : ℕ) where
     unfolding read
     stored-bounded b m h o u w q =
         brings (given (take-on s m value (2 ^ 63) _ z end h o w (take-on s n value (2 ^ 63) _ z end b m u (rw q at behind-kind))) .0)
+
+    pub not-there : k ≡ 0 → false ≡ isThere (sizeIn z)
+    unfolding read
+    not-there q = there (given (rw q at behind-kind) .0)
+
+    pub stored-there : ¬ (k ≡ 0) → true ≡ isThere (sizeIn z)
+    stored-there a = some-stored s n z end k behind-kind a
 
     pub stored-none : ¬ (k ≡ 1) → ¬ (k ≡ 2) → ¬ (k ≡ 3) → row 0 0 0 ≡ sizeRow (sizeIn z)
     stored-none a b c = none-stored s n z end k behind-kind a b c
@@ -168,11 +189,6 @@ module _ (s : List ℕ) (at : ℕ) where
 -- ## The row of a slot
 
 module _ (S : Schema) (i : ℕ) where
-  -- a message or union shows what the image brings
-  brought-row : (x : Slot) → slotOf S i ≡ x → Sizable x → sizeRow (broughtIn x) ≡ slotRow S (brought S) i (slotOf S i)
-  unfolding brought
-  brought-row x e z = sym (sizable-row S (brought S) i (subst Sizable (sym e) z) ∙ ap (λ (y : Slot). sizeRow (broughtIn y)) e)
-
   enum-row : (st : State) (e : Enum) (declared : Bool) (w : ℕ) → declared ≡ has i (S .declared) → w ≡ cond declared (enumBits e) (e .storedBits)
       → row 4 w 0 ≡ slotRow S st i (enum e)
   unfolding slotRow enumBitsAt
@@ -197,9 +213,37 @@ module _ (S : Schema) (i : ℕ) where
   blank-row st (trait t) a b c d = refl
   blank-row st (impl m) a b c d = refl
 
-module _ (s starts : List ℕ) (i : ℕ) (declared : Bool) where
-  pub row-missing : partAt s starts i ≡ Part.Missing → (r : Row) → RowIs s starts i declared r
-  row-missing e r f promise h d = absurd (not-missing s starts f promise i h e)
+-- a message or union, and the stored size that stands at a position
+record Sized (S : Schema) (i : ℕ) (s : List ℕ) (at : ℕ) : Type 0 where
+  stored : Stored
+  end : ℕ
+  reads : read storedAt s at ≡ done stored end
+  brings : brought S i ≡ sizeIn stored
+  sizable : Sizable (slotOf S i)
+
+-- its row shows what the image brings
+sized-row : (S : Schema) (i : ℕ) (s : List ℕ) (at : ℕ) (z : Sized S i s at) → sizeRow (sizeIn (z .stored)) ≡ slotRow S (brought S) i (slotOf S i)
+sized-row S i s at z = sym (sizable-row S (brought S) i (z .sizable) ∙ ap sizeRow (z .brings))
+
+-- no other kind brings a size
+brings-none : (x : Slot) → ¬ (slotKind x ≡ 1) → ¬ (slotKind x ≡ 4) → false ≡ isThere (broughtIn x)
+brings-none empty a b = refl
+brings-none (message m) a b = absurd (a refl)
+brings-none (enum e) a b = refl
+brings-none (flags f) a b = refl
+brings-none (union u) a b = absurd (b refl)
+brings-none (newtype n) a b = refl
+brings-none config a b = refl
+brings-none (alias x) a b = refl
+brings-none (trait t) a b = refl
+brings-none (impl m) a b = refl
+
+module _ (s starts : List ℕ) (i : ℕ) where
+  pub row-missing : partAt s starts i ≡ Part.Missing → (declared : Bool) (r : Row) → RowIs s starts i declared r
+  row-missing e declared r f promise h d = absurd (not-missing s starts f promise i h e)
+
+  pub brings-missing : partAt s starts i ≡ Part.Missing → (r : Bool) → BringsIs s starts i r
+  brings-missing e r f promise h = absurd (not-missing s starts f promise i h e)
 
   module _ (k body : ℕ) (part : partAt s starts i ≡ Part.At k body) where
     -- a slot of one kind
@@ -209,39 +253,83 @@ module _ (s starts : List ℕ) (i : ℕ) (declared : Bool) where
         let b = part-behind s starts f promise i h k body part in
         (b .end, made-of s g a body (slotOf (schemaOf (f .edition) s) i) (b .end) (ap (λ (y : Grammar Slot). read y s body) (sym q) ∙ b .reads))
 
-    pub row-message : k ≡ 1 → (p : ℕ) → ((x : Span) (n : ℕ) → read spanAt s body ≡ done x n → p ≡ n)
+    module _ (f : Frame) (promise : Promise s starts f) (h : i < f .slots) where
+      message-sized : k ≡ 1 → (p : ℕ) → ((x : Span) (n : ℕ) → read spanAt s body ≡ done x n → p ≡ n) → Sized (schemaOf (f .edition) s) i s p
+      unfolding slotBodyAt brought
+      message-sized q p after =
+          let m = held message (messageAt (f .edition) (f .names)) f promise h (rw q) .1 in
+          let t = message-parts s body (f .edition) (f .names) (m .held) _ (m .reads) in
+          record {
+            stored = m .held .stored;
+            end = t .storedEnd;
+            reads = rw (after (t .span) (t .spanEnd) (t .spanRead)) (t .storedRead);
+            brings = ap broughtIn (m .slotIs);
+            sizable = subst Sizable (sym (m .slotIs)) isMessage;
+          }
+
+      union-sized : k ≡ 4 → Sized (schemaOf (f .edition) s) i s body
+      unfolding slotBodyAt brought
+      union-sized q =
+          let m = held union (unionAt (f .edition) (f .names)) f promise h (rw q) .1 in
+          let t = union-stored s body (f .edition) (f .names) (m .held) _ (m .reads) in
+          record {
+            stored = m .held .stored;
+            end = t .0;
+            reads = t .1;
+            brings = ap broughtIn (m .slotIs);
+            sizable = subst Sizable (sym (m .slotIs)) isUnion;
+          }
+
+    -- ## Whether it brings a size
+
+    pub brings-message : k ≡ 1 → (p : ℕ) → ((x : Span) (n : ℕ) → read spanAt s body ≡ done x n → p ≡ n)
+        → (r : Bool) → ((z : Stored) (n : ℕ) → read storedAt s p ≡ done z n → r ≡ isThere (sizeIn z)) → BringsIs s starts i r
+    brings-message q p after r says f promise h =
+        let z = message-sized f promise h q p after in
+        says (z .stored) (z .end) (z .reads) ∙ ap isThere (sym (z .brings))
+
+    pub brings-union : k ≡ 4 → (r : Bool) → ((z : Stored) (n : ℕ) → read storedAt s body ≡ done z n → r ≡ isThere (sizeIn z)) → BringsIs s starts i r
+    brings-union q r says f promise h =
+        let z = union-sized f promise h q in
+        says (z .stored) (z .end) (z .reads) ∙ ap isThere (sym (z .brings))
+
+    pub brings-other : ¬ (k ≡ 1) → ¬ (k ≡ 4) → BringsIs s starts i false
+    unfolding brought
+    brings-other a b f promise h =
+        let q = part-behind s starts f promise i h k body part .kindIs in
+        brings-none (slotOf (schemaOf (f .edition) s) i) (λ x. a (sym q ∙ x)) (λ x. b (sym q ∙ x))
+
+    -- ## Its row
+
+    pub row-message : (declared : Bool) → k ≡ 1 → (p : ℕ) → ((x : Span) (n : ℕ) → read spanAt s body ≡ done x n → p ≡ n)
         → (r : Row) → ((z : Stored) (n : ℕ) → read storedAt s p ≡ done z n → numbers r ≡ sizeRow (sizeIn z)) → RowIs s starts i declared r
-    unfolding slotBodyAt
-    row-message q p after r says f promise h d =
-        let m = held message (messageAt (f .edition) (f .names)) f promise h (rw q) .1 in
-        let t = message-parts s body (f .edition) (f .names) (m .held) _ (m .reads) in
-        says (m .held .stored) (t .storedEnd) (rw (after (t .span) (t .spanEnd) (t .spanRead)) (t .storedRead))
-        ∙ brought-row (schemaOf (f .edition) s) i (message (m .held)) (m .slotIs) isMessage
+    row-message declared q p after r says f promise h d =
+        let z = message-sized f promise h q p after in
+        says (z .stored) (z .end) (z .reads) ∙ sized-row _ _ _ _ z
 
-    pub row-union : k ≡ 4 → (r : Row) → ((z : Stored) (n : ℕ) → read storedAt s body ≡ done z n → numbers r ≡ sizeRow (sizeIn z)) → RowIs s starts i declared r
-    unfolding slotBodyAt
-    row-union q r says f promise h d =
-        let m = held union (unionAt (f .edition) (f .names)) f promise h (rw q) .1 in
-        let t = union-stored s body (f .edition) (f .names) (m .held) _ (m .reads) in
-        says (m .held .stored) (t .0) (t .1) ∙ brought-row (schemaOf (f .edition) s) i (union (m .held)) (m .slotIs) isUnion
+    pub row-union : (declared : Bool) → k ≡ 4 → (r : Row) → ((z : Stored) (n : ℕ) → read storedAt s body ≡ done z n → numbers r ≡ sizeRow (sizeIn z))
+        → RowIs s starts i declared r
+    row-union declared q r says f promise h d =
+        let z = union-sized f promise h q in
+        says (z .stored) (z .end) (z .reads) ∙ sized-row _ _ _ _ z
 
-    pub row-enum : k ≡ 2 → (w : ℕ) → ((ed : Edition) (e : Enum) (n : ℕ) → read (enumAt ed) s body ≡ done e n → w ≡ cond declared (enumBits e) (e .storedBits))
+    pub row-enum : (declared : Bool) → k ≡ 2 → (w : ℕ) → ((ed : Edition) (e : Enum) (n : ℕ) → read (enumAt ed) s body ≡ done e n → w ≡ cond declared (enumBits e) (e .storedBits))
         → RowIs s starts i declared (record { kind = 4; a = w; b = 0 })
     unfolding slotBodyAt
-    row-enum q w says f promise h d =
+    row-enum declared q w says f promise h d =
         let m = held enum (enumAt (f .edition)) f promise h (rw q) .1 in
         enum-row (schemaOf (f .edition) s) i (brought (schemaOf (f .edition) s)) (m .held) declared w d (says (f .edition) (m .held) _ (m .reads))
         ∙ ap (slotRow (schemaOf (f .edition) s) (brought (schemaOf (f .edition) s)) i) (sym (m .slotIs))
 
-    pub row-flags : k ≡ 3 → (w : ℕ) → ((ed : Edition) (f : Flags) (n : ℕ) → read (flagsAt ed) s body ≡ done f n → w ≡ cond declared (flagsBytes f) (f .storedBytes))
+    pub row-flags : (declared : Bool) → k ≡ 3 → (w : ℕ) → ((ed : Edition) (f : Flags) (n : ℕ) → read (flagsAt ed) s body ≡ done f n → w ≡ cond declared (flagsBytes f) (f .storedBytes))
         → RowIs s starts i declared (record { kind = 5; a = w; b = 0 })
     unfolding slotBodyAt
-    row-flags q w says f promise h d =
+    row-flags declared q w says f promise h d =
         let m = held flags (flagsAt (f .edition)) f promise h (rw q) .1 in
         flags-row (schemaOf (f .edition) s) i (brought (schemaOf (f .edition) s)) (m .held) declared w d (says (f .edition) (m .held) _ (m .reads))
         ∙ ap (slotRow (schemaOf (f .edition) s) (brought (schemaOf (f .edition) s)) i) (sym (m .slotIs))
 
-    pub row-blank : ¬ (k ≡ 1) → ¬ (k ≡ 2) → ¬ (k ≡ 3) → ¬ (k ≡ 4) → (r : Row) → numbers r ≡ row 0 0 0 → RowIs s starts i declared r
-    row-blank a b c d r e f promise h m =
+    pub row-blank : (declared : Bool) → ¬ (k ≡ 1) → ¬ (k ≡ 2) → ¬ (k ≡ 3) → ¬ (k ≡ 4) → (r : Row) → numbers r ≡ row 0 0 0 → RowIs s starts i declared r
+    row-blank declared a b c d r e f promise h m =
         let q = part-behind s starts f promise i h k body part .kindIs in
         e ∙ blank-row (schemaOf (f .edition) s) i (brought (schemaOf (f .edition) s)) (slotOf (schemaOf (f .edition) s) i) (λ x. a (sym q ∙ x)) (λ x. b (sym q ∙ x)) (λ x. c (sym q ∙ x)) (λ x. d (sym q ∙ x))

@@ -10,7 +10,7 @@ use Rattle.image.specs.Schema.{slotOf}
 use Rattle.image.specs.declared.Frame.{Frame}
 use Rattle.reader.specs.Reading.{schemaOf}
 use Rattle.reader.specs.Promise.{Promise}
-use Rattle.sizes.specs.Check.{row, slotRow, brought}
+use Rattle.sizes.specs.Check.{row, slotRow, isThere, brought}
 use Rattle.rows.specs.declared.Row.{Row}
 
 abbrev pub numbers : Row → List ℕ
@@ -29,6 +29,10 @@ abbrev pub RowIs : (s starts : List ℕ) → (i : ℕ) → (declared : Bool) →
 RowIs s starts i declared r =
     (f : Frame) → Promise s starts f → i < f .slots → declared ≡ has i (schemaOf (f .edition) s .declared)
     → numbers r ≡ slotRow (schemaOf (f .edition) s) (brought (schemaOf (f .edition) s)) i (slotOf (schemaOf (f .edition) s) i)
+
+-- whether the image brings a size for slot i
+abbrev pub BringsIs : (s starts : List ℕ) → (i : ℕ) → Bool → Type 0
+BringsIs s starts i r = (f : Frame) → Promise s starts f → i < f .slots → r ≡ isThere (brought (schemaOf (f .edition) s) i)
 
 -- an accepted image, of whose slots those declared are marked, and a size table with three places a slot
 pub record Known (s starts : List ℕ) (f : Frame) (marks : List Bool) (rows : List ℕ) : Type 0 where

@@ -1,4 +1,5 @@
 // Widths of enums and flags, and the rows of the size table as they stand before any size is worked out.
+use graph::Lowest;
 use image::Frame;
 use number::Number;
 use sizes::Size;
@@ -15,9 +16,10 @@ ghost use Rattle.slot.specs.Field.{Span, spanAt, Stored, storedAt};
 ghost use Rattle.slot.specs.Slot.{Ordinals, ordinalsAt, Enum, enumAt, Flags, flagsAt};
 ghost use Rattle.slot.specs.declared.Edition.{Edition};
 ghost use Rattle.reader.specs.Reading.{schemaOf};
+ghost use Rattle.reader.specs.Promise.{Promise};
 ghost use Rattle.sizes.specs.Widths.{highest, leastBits, enumBits, bytesTo, flagsBytes};
-ghost use Rattle.sizes.specs.Check.{row, sizeIn, sizeRow, brought, tableOf};
-ghost use Rattle.rows.specs.Rows.{numbers, Takes, Marked, RowIs, Known, Ready};
+ghost use Rattle.sizes.specs.Check.{row, sizeIn, isThere, sizeRow, brought, storedSlot, tableOf};
+ghost use Rattle.rows.specs.Rows.{numbers, Takes, Marked, RowIs, BringsIs, Known, Ready};
 
 // A number of an accepted image, and the position after it. Such an image has a number wherever one is taken.
 struct Taken {
@@ -193,6 +195,18 @@ fn stored_row(image: &[u8], at: usize) -> Row
     }
 }
 
+// Is there a size that the image brings?
+fn is_stored(image: &[u8], at: usize) -> bool
+    ensures { λ r. ⌜ ((z : Stored) (n : ℕ) → read storedAt (now (image .entry)) at ≡ done z n → r ≡ isThere (sizeIn z)) ⌝ }
+{
+    let first = take(image, at);
+    let kind = first.value;
+    match kind {
+        0 => false,
+        _ => true,
+    }
+}
+
 // The position after a span.
 fn after_span(image: &[u8], at: usize) -> usize
     ensures { λ r. ⌜ ((x : Span) (n : ℕ) → read spanAt (now (image .entry)) at ≡ done x n → r ≡ n) ⌝ }
@@ -224,6 +238,35 @@ fn slot_row(image: &[u8], starts: &[usize], i: usize, declared: bool) -> Row
         },
         Part::Missing => blank_row(),
     }
+}
+
+// Does slot i bring a size?
+fn brings_size(image: &[u8], starts: &[usize], i: usize) -> bool
+    ensures { λ r. ⌜ BringsIs (now (image .entry)) (now (starts .entry)) i r ⌝ }
+{
+    match view::slot_part(image, starts, i) {
+        Part::At(kind, body) => match kind {
+            1 => is_stored(image, after_span(image, body)),
+            4 => is_stored(image, body),
+            _ => false,
+        },
+        Part::Missing => false,
+    }
+}
+
+// The lowest slot that brings a size.
+pub fn lowest_stored(image: &[u8], starts: &[usize], frame: Frame) -> Lowest
+    requires { ⌜ Promise (now image) (now starts) frame ⌝ }
+    ensures { λ r. ⌜ r ≡ storedSlot (schemaOf (frame .edition) (now (image .entry))) ⌝ }
+{
+    let mut i: usize = 0;
+    while (i as u64) < frame.slots {
+        if brings_size(image, starts, i) {
+            return Lowest::At(i);
+        }
+        i += 1;
+    }
+    Lowest::Nowhere
 }
 
 // A slot past the table's end is left out.

@@ -8,38 +8,38 @@ use Rattle.tree.specs.Tree.{Tree, wrap, array}
 use Rattle.tree.specs.Encoding.{default}
 use Rattle.slot.specs.Field.{Field, Stored}
 use Rattle.image.specs.Schema.{Schema, slotOf}
-use Rattle.sizes.specs.Sizes.{Size, Fixed, Bounded, Open, largest, limited, then, primitiveBits, leafSize, wrapSize, typeSize, encodedSize, fieldSize, addFields}
+use Rattle.sizes.specs.Sizes.{Layout, Packed, Aligned, roundUp, Size, Fixed, Bounded, Open, largest, limited, then, primitiveBits, leafSize, wrapSize, typeSize, encodedSize, fieldSize, addFields}
 use Rattle.sizes.specs.Names.{contentIn, contentOf, State, contentSize, nameRule, nameWithin, nameSize}
 use Rattle.sizes.specs.Check.{brought, bodySize, ownSize, store, accepted, storing, turn, onward, turns, checkSizes, slotRow, rowsFrom, tableOf, sizeAt}
-use Rattle.sizes.specs.Lengths.{Length, ofPrimitive, ofNamed, ofWrap, ofElements, EncodedLength, plain, FieldsLength, noField, oneField, ofMessage, SlotLength, typeParts, encodedParts, fieldsParts, contentParts, partsOf, Reaches, atOnce, byWayOf, NothingLeadsBack, Encloses}
+use Rattle.sizes.specs.Lengths.{Length, ofPrimitive, ofNamed, ofWrap, ofElements, plain, FieldsLength, noField, oneField, ofMessage, SlotLength, typeParts, encodedParts, fieldsParts, contentParts, partsOf, Reaches, atOnce, byWayOf, NothingLeadsBack, Encloses}
 use Rattle.sizes.specs.Demand.{isMessage, Declared, Attained, BringsNone}
 use Rattle.sizes.specs.Laws.{Plus}
-use Rattle.sizes.specs.Rules.{primitive-is, named-is, plain-is, message-is}
+use Rattle.sizes.specs.Rules.{primitive-is, named-is, plain-is, FieldLength, message-is}
 use Rattle.sizes.specs.Enclosure.{own-enclosed}
 use Rattle.sizes.specs.Examples.{all, declaring, a-field, each, a-message, of, u8, slot, wrong}
 
 -- ## The clauses of `Demand3`, each with one proviso dropped
 
 -- `enclosed`, whatever sizes the image brings
-abbrev pub EnclosedUntrusted : Schema → List ℕ → Type 0
-EnclosedUntrusted S table = (i : ℕ) → Declared S i → (s : Size) → sizeAt table i ≡ some s → Encloses (SlotLength S i) s
+abbrev pub EnclosedUntrusted : Layout → Schema → List ℕ → Type 0
+EnclosedUntrusted L S table = (i : ℕ) → Declared S i → (s : Size) → sizeAt table i ≡ some s → Encloses (SlotLength L S i) s
 
 -- `attained`, whatever sizes the image brings
-abbrev pub AttainedStored : Schema → List ℕ → Type 0
-AttainedStored S table = (i : ℕ) → Declared S i → NothingLeadsBack S i → (s : Size) → sizeAt table i ≡ some s →
-    Attained (SlotLength S i) s
+abbrev pub AttainedStored : Layout → Schema → List ℕ → Type 0
+AttainedStored L S table = (i : ℕ) → Declared S i → NothingLeadsBack S i → (s : Size) → sizeAt table i ≡ some s →
+    Attained (SlotLength L S i) s
 
 -- `attained`, whatever leads back to itself
-abbrev pub AttainedLooped : Schema → List ℕ → Type 0
-AttainedLooped S table = BringsNone S → (i : ℕ) → Declared S i → (s : Size) → sizeAt table i ≡ some s →
-    Attained (SlotLength S i) s
+abbrev pub AttainedLooped : Layout → Schema → List ℕ → Type 0
+AttainedLooped L S table = BringsNone S → (i : ℕ) → Declared S i → (s : Size) → sizeAt table i ≡ some s →
+    Attained (SlotLength L S i) s
 
 -- the check accepts a schema, and the claim is false of its table
-pub record Refuted (Claim : Schema → List ℕ → Type 0) : Type 0 where
+pub record Refuted (L : Layout) (Claim : Layout → Schema → List ℕ → Type 0) : Type 0 where
   pub schema : Schema
   pub final : State
-  pub accepts : checkSizes schema ≡ accepted final
-  pub fails : ¬ Claim schema (tableOf schema final)
+  pub accepts : checkSizes L schema ≡ accepted final
+  pub fails : ¬ Claim L schema (tableOf schema final)
 
 -- ## Enclosure needs trusted sizes
 
@@ -47,13 +47,13 @@ pub record Refuted (Claim : Schema → List ℕ → Type 0) : Type 0 where
 abbrev untrusted : Schema
 untrusted = wrong (0 ∷ 1 ∷ [])
 
-untrusted-length : SlotLength untrusted 0 8
+untrusted-length : SlotLength Packed untrusted 0 8
 unfolding contentOf contentIn slotOf primitiveBits
 untrusted-length =
-    let b : SlotLength untrusted 1 8 = ofNamed (ofMessage (oneField {n = 8} (plain ofPrimitive) noField)) in
+    let b : SlotLength Packed untrusted 1 8 = ofNamed (ofMessage (oneField {n = 8} (plain ofPrimitive) noField)) in
     ofNamed (ofMessage (oneField {n = 8} (plain b) noField))
 
-pub enclosed-untrusted : Refuted EnclosedUntrusted
+pub enclosed-untrusted : Refuted Packed EnclosedUntrusted
 unfolding checkSizes turns turn onward ownSize bodySize storing store brought nameSize nameWithin nameRule contentSize contentOf contentIn slotOf typeSize leafSize then limited primitiveBits encodedSize fieldSize addFields tableOf rowsFrom slotRow sizeAt
 enclosed-untrusted = record {
   schema = untrusted;
@@ -81,7 +81,7 @@ onward-only : {i j : ℕ} → Reaches (partsOf undeclared) i j → i < j
 onward-only (atOnce m) = part-is _ _ m
 onward-only (byWayOf m r) = let a = part-is _ _ m in let b = onward-only r in omega arith
 
-pub attained-stored : Refuted AttainedStored
+pub attained-stored : Refuted Packed AttainedStored
 unfolding checkSizes turns turn onward ownSize bodySize storing store brought nameSize nameWithin nameRule contentSize contentOf contentIn slotOf typeSize leafSize then limited primitiveBits encodedSize fieldSize addFields tableOf rowsFrom slotRow sizeAt
 attained-stored = record {
   schema = undeclared;
@@ -91,7 +91,7 @@ attained-stored = record {
       let d : Declared undeclared 0 = record { listed = List·Memᴰ·head refl; sizable = isMessage } in
       let free : NothingLeadsBack undeclared 0 = λ k m r. let h = onward-only r in omega arith in
       let l = claim 0 d free (Open 0) refl .low in
-      let e = own-enclosed undeclared (λ i. none) (λ i s q. absurd (Option·none-ne-some s q)) 0 (Fixed 8) refl in
+      let e = own-enclosed Packed undeclared (λ i. none) (λ i s q. absurd (Option·none-ne-some s q)) 0 (Fixed 8) refl in
       let below : 8 ≤ 0 = e .within 0 l .notBelow in
       omega arith;
 }
@@ -102,48 +102,60 @@ attained-stored = record {
 abbrev looped : Schema
 looped = all (of (u8 ∷ slot 0 ∷ []) ∷ [])
 
-first-field : (f : Field) (fs : List Field) (n : ℕ) → FieldsLength looped (f ∷ fs) n →
-    Plus (EncodedLength looped (f .encoding) (f .type)) (FieldsLength looped fs) n
-first-field f fs n (oneField {n = a} {m = b} l r) = (a, b, l, r, refl)
+not-below : (L : Layout) (n : ℕ) → n ≤ roundUp L n
+not-below Packed n = omega arith
+not-below Aligned n = omega arith
 
-shorter : (n : ℕ) → SlotLength looped 0 n → (m : ℕ) × SlotLength looped 0 m × (m < n)
-unfolding contentOf contentIn slotOf primitiveBits
-shorter n l =
-    let (a, b, byte, more, e) = first-field (a-field default u8) (each (slot 0 ∷ [])) n (message-is looped _ n .1 (named-is looped 0 n .1 l)) in
-    let (m, z, own, rest, e′) = first-field (a-field default (slot 0)) [] b more in
-    let e″ = primitive-is looped 1 a .1 (plain-is looped u8 a .1 byte) in
-    (m, plain-is looped (slot 0) m .1 own, omega arith)
+module _ (L : Layout) where
+  first-field : (f : Field) (fs : List Field) (n : ℕ) → FieldsLength L looped (f ∷ fs) n →
+      Plus (FieldLength L looped f) (FieldsLength L looped fs) n
+  first-field f fs n (oneField {n = a} {m = b} l r) = (roundUp L a, b, (a, l, refl), r, refl)
 
-none-below : (b n : ℕ) → n < b → SlotLength looped 0 n → ⊥
-none-below zero n h l = omega arith
-none-below (suc b) n h l = let (m, own, less) = shorter n l in none-below b m (omega arith) own
+  shorter : (n : ℕ) → SlotLength L looped 0 n → (m : ℕ) × SlotLength L looped 0 m × (m < n)
+  unfolding contentOf contentIn slotOf primitiveBits
+  shorter n l =
+      let (a, b, (x, byte, up), more, e) = first-field (a-field default u8) (each (slot 0 ∷ [])) n (message-is L looped _ n .1 (named-is L looped 0 n .1 l)) in
+      let (c, z, (m, own, up′), rest, e′) = first-field (a-field default (slot 0)) [] b more in
+      let e″ = primitive-is L looped 1 x .1 (plain-is L looped u8 x .1 byte) in
+      let h = not-below L x in
+      let h′ = not-below L m in
+      (m, plain-is L looped (slot 0) m .1 own, omega arith)
+
+  none-below : (b n : ℕ) → n < b → SlotLength L looped 0 n → ⊥
+  none-below zero n h l = omega arith
+  none-below (suc b) n h l = let (m, own, less) = shorter n l in none-below b m (omega arith) own
 
 brings-none : BringsNone looped
 unfolding brought slotOf
 brings-none zero = refl
 brings-none (suc i) = refl
 
-pub attained-looped : Refuted AttainedLooped
+-- on either layout
+pub attained-looped : (L : Layout) → Refuted L AttainedLooped
 unfolding checkSizes turns turn onward ownSize bodySize storing store nameSize nameWithin nameRule contentSize contentOf contentIn slotOf typeSize leafSize then limited primitiveBits encodedSize fieldSize addFields tableOf rowsFrom slotRow sizeAt
-attained-looped = record {
+attained-looped L = record {
   schema = looped;
   final = store 0 (Open 8) (brought looped);
-  accepts = refl;
+  accepts = by-layout L;
   fails = λ claim.
       let d : Declared looped 0 = record { listed = List·Memᴰ·head refl; sizable = isMessage } in
-      none-below 9 8 (omega arith) (claim brings-none 0 d (Open 8) refl .low);
+      none-below L 9 8 (omega arith) (claim brings-none 0 d (Open 8) refl .low);
 }
+  where
+    by-layout : (L : Layout) → checkSizes L looped ≡ accepted (store 0 (Open 8) (brought looped))
+    by-layout Packed = refl
+    by-layout Aligned = refl
 
 -- ## An array has no largest
 
 -- no size with a largest encloses an array's lengths
-pub array-open : (S : Schema) (t : Tree) (s : Size) → Encloses (Length S (wrap array t)) s → largest s ≡ none
-array-open S t s e = go s e
+pub array-open : (L : Layout) (S : Schema) (t : Tree) (s : Size) → Encloses (Length L S (wrap array t)) s → largest s ≡ none
+array-open L S t s e = go s e
   where
-    longer : (h : ℕ) → Length S (wrap array t) (suc (8 + h))
+    longer : (h : ℕ) → Length L S (wrap array t) (suc (8 + h))
     longer h = ofWrap (ofElements {n = suc (8 + h)} (omega arith))
 
-    go : (s : Size) → Encloses (Length S (wrap array t)) s → largest s ≡ none
+    go : (s : Size) → Encloses (Length L S (wrap array t)) s → largest s ≡ none
     go (Fixed b) e = let h : suc (8 + b) ≤ b = e .within (suc (8 + b)) (longer b) .notAbove in absurd (omega arith)
     go (Bounded l b) e = let h : suc (8 + b) ≤ b = e .within (suc (8 + b)) (longer b) .notAbove in absurd (omega arith)
     go (Open l) e = refl

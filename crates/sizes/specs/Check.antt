@@ -1,15 +1,17 @@
 -- The turns of the check, and the size table.
 use Prim.Native.Nat.{ℕ, zero, suc, _+_, _*_}
-use mathlib.Core.Bool.{cond}
+use mathlib.Core.Bool.{Bool, true, false, cond}
 use mathlib.Core.List.{List, [], _∷_, _++_}
 use mathlib.Core.Option.{Option, none, some}
-use lib.ListN.{getD}
+use lib.ListN.{length, getD}
 use lib.Dec.{eqb}
 use Rattle.slot.specs.Field.{Stored}
 use Rattle.slot.specs.Slot.{Slot, empty, message, enum, flags, union, newtype, config, alias, trait, impl}
+use Rattle.graph.specs.Ways.{lowest}
+use Rattle.graph.specs.declared.Lowest.{Lowest}
 use Rattle.image.specs.Schema.{Schema, slotOf}
 use Rattle.sizes.specs.Widths.{enumBitsAt, flagsBytesAt}
-use Rattle.sizes.specs.Sizes.{Size, Fixed, Bounded, Open, Operation, Worked, Sized, Over, Resolver, fieldsSize, unionSize}
+use Rattle.sizes.specs.Sizes.{Size, Fixed, Bounded, Open, Operation, Layout, Worked, Sized, Over, Resolver, fieldsSize, unionSize}
 use Rattle.sizes.specs.Names.{Content, fields, variants, bits, terminal, anything, contentOf, State, nothing, inserted, nameSize}
 
 -- ## Turns
@@ -36,17 +38,25 @@ broughtIn (impl m) = none
 unfoldable pub brought : Schema → State
 brought S i = broughtIn (slotOf S i)
 
+abbrev pub isThere : Option Size → Bool
+isThere none = false
+isThere (some s) = true
+
+-- refusal 15: the lowest slot that brings a size, declared, reached or not
+unfoldable pub storedSlot : Schema → Lowest
+storedSlot S = lowest (λ i. isThere (brought S i)) (length (S .slots)) 0
+
 -- a message or union, worked out; no other slot is
-unfoldable pub bodySize : Resolver → Content → Option Worked
-bodySize r (fields fs) = some (fieldsSize r fs)
-bodySize r (variants vs) = some (unionSize r vs)
-bodySize r (bits b) = none
-bodySize r (terminal t) = none
-bodySize r anything = none
+unfoldable pub bodySize : Layout → Resolver → Content → Option Worked
+bodySize L r (fields fs) = some (fieldsSize L r fs)
+bodySize L r (variants vs) = some (unionSize L r vs)
+bodySize L r (bits b) = none
+bodySize L r (terminal t) = none
+bodySize L r anything = none
 
 -- at its turn, the slot itself being worked out
-unfoldable pub ownSize : Schema → State → (slot : ℕ) → Option Worked
-ownSize S st i = bodySize (nameSize S st (inserted i nothing)) (contentOf S i)
+unfoldable pub ownSize : Layout → Schema → State → (slot : ℕ) → Option Worked
+ownSize L S st i = bodySize L (nameSize L S st (inserted i nothing)) (contentOf S i)
 
 unfoldable pub store : (slot : ℕ) → Size → State → State
 store i s st j = cond (eqb j i) (some s) (st j)
@@ -62,21 +72,21 @@ storing st i (some (Sized s)) = accepted (store i s st)
 storing st i (some (Over o)) = refused o i
 
 -- one place of the declaration list
-unfoldable pub turn : Schema → State → (slot : ℕ) → Checked
-turn S st i = storing st i (ownSize S st i)
+unfoldable pub turn : Layout → Schema → State → (slot : ℕ) → Checked
+turn L S st i = storing st i (ownSize L S st i)
 
 unfoldable pub onward : Checked → (State → Checked) → Checked
 onward (accepted st) next = next st
 onward (refused o i) next = refused o i
 
 -- the places in order
-unfoldable pub turns : Schema → State → List ℕ → Checked
-turns S st [] = accepted st
-turns S st (i ∷ is) = onward (turn S st i) (λ st′. turns S st′ is)
+unfoldable pub turns : Layout → Schema → State → List ℕ → Checked
+turns L S st [] = accepted st
+turns L S st (i ∷ is) = onward (turn L S st i) (λ st′. turns L S st′ is)
 
 -- every turn, from the sizes that the image brings
-unfoldable pub checkSizes : Schema → Checked
-checkSizes S = turns S (brought S) (S .declared)
+unfoldable pub checkSizes : Layout → Schema → Checked
+checkSizes L S = turns L S (brought S) (S .declared)
 
 -- ## The size table: three numbers a slot
 

@@ -8,7 +8,7 @@ use Rattle.slot.specs.Field.{Field, Stored}
 use Rattle.slot.specs.Slot.{Slot, message, enum, flags, union, newtype}
 use Rattle.image.specs.Schema.{Schema, slotOf}
 use Rattle.sizes.specs.Widths.{highest, digits, bitLength, ordinalBits, enumBits, bytesTo, flagsBytes, has, enumBitsAt, flagsBytesAt}
-use Rattle.sizes.specs.Sizes.{limited, then, refusalOf, primitiveBits, semanticBits, leafSize, wrapSize, typeSize, varintEnd, zigZagEnd, encodedSize, fieldSize, addFields, addVariants, unionSize}
+use Rattle.sizes.specs.Sizes.{Layout, Packed, Aligned, limited, then, refusalOf, primitiveBits, semanticBits, leafSize, wrapSize, typeSize, varintEnd, zigZagEnd, encodedSize, fieldSize, addFields, addVariants, unionSize}
 use Rattle.sizes.specs.Names.{contentIn, contentOf, contentSize, nameRule, nameWithin, nameSize}
 use Rattle.sizes.specs.Check.{brought, bodySize, ownSize, store, Checked, accepted, refused, storing, turn, onward, turns, checkSizes, row, slotRow, rowsFrom, tableOf}
 
@@ -99,8 +99,8 @@ refuses S n i = record { of = S; gives = refusal n i }
 abbrev pub said : List Line → List Answer
 said ls = map (λ l. l .gives) ls
 
-abbrev pub answered : List Line → List Answer
-answered ls = map (λ l. answerOf (l .of) (checkSizes (l .of))) ls
+abbrev pub answered : Layout → List Line → List Answer
+answered L ls = map (λ l. answerOf (l .of) (checkSizes L (l .of))) ls
 
 -- ## Lines of sizes
 
@@ -150,7 +150,7 @@ others =
     ∷ refuses (declaring (1 ∷ []) (of (fixedArray u8 (2 ^ 60) ∷ []) ∷ of (slot 0 ∷ []) ∷ [])) 14 1
     ∷ []
 
-pub others-hold : answered others ≡ said others
+pub others-hold : answered Packed others ≡ said others
 unfolding checkSizes turns turn onward ownSize bodySize storing store brought nameSize nameWithin nameRule contentSize contentOf contentIn slotOf typeSize leafSize wrapSize then limited primitiveBits semanticBits varintEnd zigZagEnd encodedSize fieldSize addFields addVariants unionSize tableOf rowsFrom slotRow enumBitsAt flagsBytesAt enumBits flagsBytes ordinalBits bitLength digits highest bytesTo has
 others-hold = refl
 
@@ -184,6 +184,41 @@ firstSteps =
     ∷ refuses (all (of (wrap vec2 (wrap optional (fixedArray bool (2 ^ 62))) ∷ []) ∷ [])) 14 0
     ∷ []
 
-pub first-steps-hold : answered firstSteps ≡ said firstSteps
+pub first-steps-hold : answered Packed firstSteps ≡ said firstSteps
 unfolding checkSizes turns turn onward ownSize bodySize storing store brought nameSize nameWithin nameRule contentSize contentOf contentIn slotOf typeSize leafSize wrapSize then limited primitiveBits semanticBits varintEnd zigZagEnd encodedSize fieldSize addFields addVariants unionSize tableOf rowsFrom slotRow
 first-steps-hold = refl
+
+-- ## The head board
+
+abbrev pub boardLines : List Line
+boardLines =
+    -- each field is rounded before it is added, not the total: 1 and 1 are 16, and Fixed they stay
+    shows (all (of (bool ∷ bool ∷ []) ∷ [])) (row 1 16 16)
+    -- 1..2 becomes 8..8, and is not Fixed by it
+    ∷ shows (all (of (wrap optional bool ∷ []) ∷ [])) (row 2 8 8)
+    -- parts inside a field's type are not rounded: three Bools and the bit of an Optional are 1..4, then 8..8
+    ∷ shows (all (of (wrap optional (fixedArray bool 3) ∷ []) ∷ [])) (row 2 8 8)
+    -- those of a message or union in it are
+    ∷ shows (all (of (wrap optional (slot 1) ∷ []) ∷ of (bool ∷ bool ∷ []) ∷ [])) (row 2 8 24 ++ row 1 16 16)
+    ∷ shows (all (a-union (each (bool ∷ []) ∷ each (bool ∷ u8 ∷ []) ∷ []) ∷ [])) (row 2 16 24)
+    -- the most that rounds to a multiple of 8 within the limit, and one more
+    ∷ shows (all (of (fixedArray bool (2 ^ 63 - 8) ∷ []) ∷ [])) (row 1 (2 ^ 63 - 8) (2 ^ 63 - 8))
+    ∷ refuses (all (of (fixedArray bool (2 ^ 63 - 7) ∷ []) ∷ [])) 11 0
+    ∷ refuses (all (of (fixedArray bool (2 ^ 63 - 1) ∷ []) ∷ [])) 11 0
+    -- rounding tests its own numbers: behind a field without largest the sum would not
+    ∷ refuses (all (of (string ∷ wrap optional (fixedArray bool (2 ^ 63 - 2)) ∷ []) ∷ [])) 11 0
+    -- A { [B; 2^60] }, B { bool }: a product that passes the limit on the head board only
+    ∷ refuses (all (of (fixedArray (slot 1) (2 ^ 60) ∷ []) ∷ of (bool ∷ []) ∷ [])) 14 0
+    ∷ []
+
+pub board-lines-hold : answered Aligned boardLines ≡ said boardLines
+unfolding checkSizes turns turn onward ownSize bodySize storing store brought nameSize nameWithin nameRule contentSize contentOf contentIn slotOf typeSize leafSize wrapSize then limited primitiveBits semanticBits varintEnd zigZagEnd encodedSize fieldSize addFields addVariants unionSize tableOf rowsFrom slotRow
+board-lines-hold = refl
+
+-- the last of them on the ordinary layout
+abbrev pub unrounded : List Line
+unrounded = shows (all (of (fixedArray (slot 1) (2 ^ 60) ∷ []) ∷ of (bool ∷ []) ∷ [])) (row 1 (2 ^ 60) (2 ^ 60) ++ row 1 1 1) ∷ []
+
+pub unrounded-holds : answered Packed unrounded ≡ said unrounded
+unfolding checkSizes turns turn onward ownSize bodySize storing store brought nameSize nameWithin nameRule contentSize contentOf contentIn slotOf typeSize leafSize wrapSize then limited primitiveBits semanticBits varintEnd zigZagEnd encodedSize fieldSize addFields addVariants unionSize tableOf rowsFrom slotRow
+unrounded-holds = refl

@@ -16,7 +16,7 @@ use Rattle.tree.specs.Tree.{Tree, Leaf, leaf, wrap, fixedArray, pair, generic, 
 use Rattle.tree.specs.Encoding.{Encoding, default, varint, zigZag, delta}
 use Rattle.slot.specs.Field.{Field}
 use Rattle.image.specs.Schema.{Schema}
-use Rattle.sizes.specs.Sizes.{Size, Fixed, Bounded, Open, Worked, Sized, limitedSum, then, Resolver, leafSize, widened, Count, atMostOne, anyNumber, exactly, countOf, wrapSize, typeSize, encodedSize, fieldSize, added, addFields, mark, addVariants, unionSize}
+use Rattle.sizes.specs.Sizes.{Layout, laid, Size, Fixed, Bounded, Open, Worked, Sized, limitedSum, then, Resolver, leafSize, widened, Count, atMostOne, anyNumber, exactly, countOf, wrapSize, typeSize, encodedSize, fieldSize, added, addFields, mark, addVariants, unionSize}
 use Rattle.sizes.specs.Names.{Content, fields, variants, bits, terminal, anything, contentOf, State, Working, inserted, orElse, contentSize, nameRule, nameWithin, enough, nameSize, GoesByRule, NamesObey}
 use Rattle.sizes.specs.Check.{bodySize}
 use Rattle.sizes.specs.Lengths.{wrapParts, typeParts, encodedParts, fieldsParts, variantsParts, contentParts, terminalParts, terminalsOf, NewtypesEnd}
@@ -63,50 +63,51 @@ module _ (r r′ : Resolver) where
   encoded-agree zigZag t h = refl
   encoded-agree (delta e) t h = encoded-agree e t h
 
-  fields-agree : (fs : List Field) → Agree r r′ (fieldsParts fs) → (total : Size) →
-      addFields r total fs ≡ addFields r′ total fs
-  unfolding addFields fieldSize fieldsParts
-  fields-agree [] h total = refl
-  fields-agree (f ∷ fs) h total =
-      ap₂ (λ (x : Worked) (y : Size → Worked). then x (λ s. then (limitedSum (added total s)) y))
-      (encoded-agree (f .encoding) (f .type) (λ j p. h j (Memᴰ·append-left (fieldsParts fs) p)))
-      (fun-ext (fields-agree fs (λ j p. h j (Memᴰ·append-right (encodedParts (f .encoding) (f .type)) p))))
+  module _ (L : Layout) where
+    fields-agree : (fs : List Field) → Agree r r′ (fieldsParts fs) → (total : Size) →
+        addFields L r total fs ≡ addFields L r′ total fs
+    unfolding addFields fieldSize fieldsParts
+    fields-agree [] h total = refl
+    fields-agree (f ∷ fs) h total =
+        ap₂ (λ (x : Worked) (y : Size → Worked). then (then x (laid L)) (λ s. then (limitedSum (added total s)) y))
+        (encoded-agree (f .encoding) (f .type) (λ j p. h j (Memᴰ·append-left (fieldsParts fs) p)))
+        (fun-ext (fields-agree fs (λ j p. h j (Memᴰ·append-right (encodedParts (f .encoding) (f .type)) p))))
 
-  variants-agree : (vs : List (List Field)) → Agree r r′ (variantsParts vs) → (extremes : Size) →
-      addVariants r extremes vs ≡ addVariants r′ extremes vs
-  unfolding addVariants variantsParts
-  variants-agree [] h extremes = refl
-  variants-agree (v ∷ vs) h extremes =
-      ap₂ then (fields-agree v (λ j p. h j (Memᴰ·append-left (variantsParts vs) p)) (Fixed 0))
-      (fun-ext (λ s. variants-agree vs (λ j p. h j (Memᴰ·append-right (fieldsParts v) p)) (widened extremes s)))
+    variants-agree : (vs : List (List Field)) → Agree r r′ (variantsParts vs) → (extremes : Size) →
+        addVariants L r extremes vs ≡ addVariants L r′ extremes vs
+    unfolding addVariants variantsParts
+    variants-agree [] h extremes = refl
+    variants-agree (v ∷ vs) h extremes =
+        ap₂ then (fields-agree v (λ j p. h j (Memᴰ·append-left (variantsParts vs) p)) (Fixed 0))
+        (fun-ext (λ s. variants-agree vs (λ j p. h j (Memᴰ·append-right (fieldsParts v) p)) (widened extremes s)))
 
-  union-agree : (vs : List (List Field)) → Agree r r′ (variantsParts vs) → unionSize r vs ≡ unionSize r′ vs
-  unfolding unionSize
-  union-agree [] h = refl
-  union-agree (v ∷ vs) h = rw (variants-agree (v ∷ vs) h (Bounded mark 0))
+    union-agree : (vs : List (List Field)) → Agree r r′ (variantsParts vs) → unionSize L r vs ≡ unionSize L r′ vs
+    unfolding unionSize
+    union-agree [] h = refl
+    union-agree (v ∷ vs) h = rw (variants-agree (v ∷ vs) h (Bounded mark 0))
 
-  pub body-agree : (c : Content) → Agree r r′ (contentParts c) → bodySize r c ≡ bodySize r′ c
-  unfolding bodySize contentParts
-  body-agree (fields fs) h = ap some (fields-agree fs h (Fixed 0))
-  body-agree (variants vs) h = ap some (union-agree vs h)
-  body-agree (bits b) h = refl
-  body-agree (terminal t) h = refl
-  body-agree anything h = refl
+    pub body-agree : (c : Content) → Agree r r′ (contentParts c) → bodySize L r c ≡ bodySize L r′ c
+    unfolding bodySize contentParts
+    body-agree (fields fs) h = ap some (fields-agree fs h (Fixed 0))
+    body-agree (variants vs) h = ap some (union-agree vs h)
+    body-agree (bits b) h = refl
+    body-agree (terminal t) h = refl
+    body-agree anything h = refl
 
 -- the parts of a message or union are met inside it, those of a newtype beside it
-pub content-agree : (stored : Option Size) (beside beside′ inside inside′ : Resolver) (c : Content) →
+pub content-agree : (L : Layout) (stored : Option Size) (beside beside′ inside inside′ : Resolver) (c : Content) →
     Agree beside beside′ (terminalParts c) → Agree inside inside′ (contentParts c) →
-    contentSize stored beside inside c ≡ contentSize stored beside′ inside′ c
+    contentSize L stored beside inside c ≡ contentSize L stored beside′ inside′ c
 unfolding contentSize terminalParts contentParts
-content-agree stored b b′ i i′ (fields fs) h h′ = ap (orElse stored) (fields-agree i i′ fs h′ (Fixed 0))
-content-agree stored b b′ i i′ (variants vs) h h′ = ap (orElse stored) (union-agree i i′ vs h′)
-content-agree stored b b′ i i′ (bits k) h h′ = refl
-content-agree stored b b′ i i′ (terminal t) h h′ = type-agree b b′ t h
-content-agree stored b b′ i i′ anything h h′ = refl
+content-agree L stored b b′ i i′ (fields fs) h h′ = ap (orElse stored) (fields-agree i i′ L fs h′ (Fixed 0))
+content-agree L stored b b′ i i′ (variants vs) h h′ = ap (orElse stored) (union-agree i i′ L vs h′)
+content-agree L stored b b′ i i′ (bits k) h h′ = refl
+content-agree L stored b b′ i i′ (terminal t) h h′ = type-agree b b′ t h
+content-agree L stored b b′ i i′ anything h h′ = refl
 
 -- ## The rule for names
 
-module _ (S : Schema) (st : State) where
+module _ (L : Layout) (S : Schema) (st : State) where
   abbrev count : ℕ
   count = length (S .slots)
 
@@ -130,9 +131,9 @@ module _ (S : Schema) (st : State) where
 
   -- what goes by the rule for names, and by what goes by it, and so on
   abbrev Obeys : (ℕ → Working → Resolver) → Type 0
-  Obeys X = (k : ℕ) (w : Working) (i : ℕ) → X (suc k) w i ≡ nameRule S st (X k) w i
+  Obeys X = (k : ℕ) (w : Working) (i : ℕ) → X (suc k) w i ≡ nameRule L S st (X k) w i
 
-  within-obeys : Obeys (nameWithin S st)
+  within-obeys : Obeys (nameWithin L S st)
   unfolding nameWithin
   within-obeys k w i = refl
 
@@ -150,29 +151,29 @@ module _ (S : Schema) (st : State) where
         x f w i ∙ go (w i) refl (λ w′ j h. agree X Y x y f g w′ j (omega arith) (omega arith)) ∙ sym (y g w i)
       where
         go : (b : Bool) → w i ≡ b → ((w′ : Working) (j : ℕ) → left w′ j < left w i → X f w′ j ≡ Y g w′ j) →
-            cond b (Sized (Open 0)) (contentSize (st i) (X f w) (X f (inserted i w)) (contentOf S i))
-            ≡ cond b (Sized (Open 0)) (contentSize (st i) (Y g w) (Y g (inserted i w)) (contentOf S i))
+            cond b (Sized (Open 0)) (contentSize L (st i) (X f w) (X f (inserted i w)) (contentOf S i))
+            ≡ cond b (Sized (Open 0)) (contentSize L (st i) (Y g w) (Y g (inserted i w)) (contentOf S i))
         go true e less = refl
-        go false e less = content-agree (st i) (X f w) (Y g w) (X f (inserted i w)) (Y g (inserted i w)) (contentOf S i)
+        go false e less = content-agree L (st i) (X f w) (Y g w) (X f (inserted i w)) (Y g (inserted i w)) (contentOf S i)
             (λ j p. less w j (left-beside w i j p)) (λ j p. less (inserted i w) j (left-inside w i j (part-below S i j p) e))
 
-    pub name-obeys : GoesByRule S st (nameSize S st)
+    pub name-obeys : GoesByRule L S st (nameSize L S st)
     unfolding nameSize nameWithin
     name-obeys w i = let h = left-enough w i in
-        agree (nameWithin S st) (nameWithin S st) within-obeys within-obeys (enough S) (suc (enough S)) w i h (omega arith)
+        agree (nameWithin L S st) (nameWithin L S st) within-obeys within-obeys (enough S) (suc (enough S)) w i h (omega arith)
 
     -- nothing else obeys it
-    pub name-only : (name : Working → Resolver) → GoesByRule S st name → (w : Working) (i : ℕ) → name w i ≡ nameSize S st w i
+    pub name-only : (name : Working → Resolver) → GoesByRule L S st name → (w : Working) (i : ℕ) → name w i ≡ nameSize L S st w i
     unfolding nameSize
     name-only name obeys w i = let h = left-enough w i in
-        agree (λ k. name) (nameWithin S st) (λ k. obeys) within-obeys (enough S) (enough S) w i h h
+        agree (λ k. name) (nameWithin L S st) (λ k. obeys) within-obeys (enough S) (enough S) w i h h
 
   -- what is being worked out is a set
-  pub name-same : (w w′ : Working) → ((x : ℕ) → w x ≡ w′ x) → (i : ℕ) → nameSize S st w i ≡ nameSize S st w′ i
-  name-same w w′ same i = ap (λ (x : Working). nameSize S st x i) (fun-ext same)
+  pub name-same : (w w′ : Working) → ((x : ℕ) → w x ≡ w′ x) → (i : ℕ) → nameSize L S st w i ≡ nameSize L S st w′ i
+  name-same w w′ same i = ap (λ (x : Working). nameSize L S st x i) (fun-ext same)
 
-pub names-obey : (S : Schema) → NewtypesEnd S → NamesObey S
-names-obey S ends = record { obey = λ st. name-obeys S st ends; alone = λ st. name-only S st ends }
+pub names-obey : (L : Layout) (S : Schema) → NewtypesEnd S → NamesObey L S
+names-obey L S ends = record { obey = λ st. name-obeys L S st ends; alone = λ st. name-only L S st ends }
 
 -- the set as a list of marks
 pub inserted-is : (marks : List Bool) (i j : ℕ) → i < length marks →

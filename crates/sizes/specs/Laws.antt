@@ -34,7 +34,20 @@ Either P Q n = P n ⊎ Q n
 abbrev pub Relation : Type 1
 Relation = (lengths : ℕ → Type 0) → (smallest : ℕ) → (largest : Option ℕ) → Type 0
 
+-- what a rounding rule makes of lengths
+abbrev pub RoundedTo : (up : ℕ → ℕ) → (P : ℕ → Type 0) → ℕ → Type 0
+RoundedTo up P n = (m : ℕ) × P m × (n ≡ up m)
+
+-- a rounding rule keeps the order
+abbrev pub Rising : (ℕ → ℕ) → Type 0
+Rising up = (m n : ℕ) → m ≤ n → up m ≤ up n
+
+abbrev pub upper : (up : ℕ → ℕ) → Option ℕ → Option ℕ
+upper up (some h) = some (up h)
+upper up none = none
+
 pub record Laws (R : Relation) : Type 1 where
+  pub rounded : (up : ℕ → ℕ) → Rising up → (P : ℕ → Type 0) (l : ℕ) (h : Option ℕ) → R P l h → R (RoundedTo up P) (up l) (upper up h)
   pub same : {P : ℕ → Type 0} (Q : ℕ → Type 0) (l : ℕ) (h : Option ℕ) → ((n : ℕ) → P n ↔ Q n) → R P l h → R Q l h
   pub exact : (b : ℕ) → R (λ n. n ≡ b) b (some b)
   pub upFrom : (l : ℕ) → R (λ n. l ≤ n) l none
@@ -107,8 +120,20 @@ optional-ordered : (h : Option ℕ) → AtMost 1 (both _+_ (some 1) h)
 optional-ordered (some h) = omega arith
 optional-ordered none = tt
 
+upper-ordered : (up : ℕ → ℕ) → Rising up → (l : ℕ) (h : Option ℕ) → AtMost l h → AtMost (up l) (upper up h)
+upper-ordered up rise l (some h) o = rise l h o
+upper-ordered up rise l none o = tt
+
+upper-between : (up : ℕ → ℕ) → Rising up → (l : ℕ) (h : Option ℕ) (n : ℕ) → Between l h n → Between (up l) (upper up h) (up n)
+upper-between up rise l (some h) n b = record { notBelow = rise l n (b .notBelow); notAbove = rise n h (b .notAbove) }
+upper-between up rise l none n b = record { notBelow = rise l n (b .notBelow); notAbove = tt }
+
 pub around : Laws Around
 around = record {
+  rounded = λ up rise P l h a. record {
+    ordered = upper-ordered up rise l h (a .ordered);
+    between = λ n (m, p, e). rw e (upper-between up rise l h m (a .between m p));
+  };
   same = λ Q l h f a. record { ordered = a .ordered; between = λ n q. a .between n (f n .1 q) };
   exact = λ b. record { ordered = omega arith; between = λ n e. omega arith };
   upFrom = λ l. record { ordered = tt; between = λ n e. omega arith };
@@ -160,8 +185,13 @@ at-min X a b p q = by-cases (decLe a b) (λ h. rw (min-eq-left h) p) (λ h. let 
 at-max : (X : ℕ → Type 0) (a b : ℕ) → X a → X b → X (max a b)
 at-max X a b p q = by-cases (decLe a b) (λ h. rw (max-eq-right h) q) (λ h. let e : max a b ≡ a = omega arith in rw e p)
 
+high-upper : (up : ℕ → ℕ) (P : ℕ → Type 0) (h : Option ℕ) → AtLargest P h → AtLargest (RoundedTo up P) (upper up h)
+high-upper up P (some h) p = (h, p, refl)
+high-upper up P none p = tt
+
 pub ends : Laws Ends
 ends = record {
+  rounded = λ up rise P l h a. record { low = (l, a .low, refl); high = high-upper up P h (a .high) };
   same = λ {P} Q l h f a. record { low = f l .0 (a .low); high = high-map P Q (λ n. f n .0) h (a .high) };
   exact = λ b. record { low = refl; high = refl };
   upFrom = λ l. record { low = omega arith; high = tt };

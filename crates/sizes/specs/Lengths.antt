@@ -8,7 +8,7 @@ use Rattle.tree.specs.Tree.{Tree, Leaf, Wrap, leaf, wrap, fixedArray, pair, gen
 use Rattle.tree.specs.Encoding.{Encoding, default, varint, zigZag, delta}
 use Rattle.slot.specs.Field.{Field}
 use Rattle.image.specs.Schema.{Schema}
-use Rattle.sizes.specs.Sizes.{Size, smallest, largest, primitiveBits, semanticBits, Count, atMostOne, anyNumber, exactly, countOf, varintEnd, zigZagEnd}
+use Rattle.sizes.specs.Sizes.{Size, Layout, roundUp, smallest, largest, primitiveBits, semanticBits, Count, atMostOne, anyNumber, exactly, countOf, varintEnd, zigZagEnd}
 use Rattle.sizes.specs.Names.{Content, fields, variants, bits, terminal, anything, contentOf, State}
 
 -- ## The length rules
@@ -26,55 +26,55 @@ pub record InSpan (end n : ℕ) : Type 0 where
 
 mutual
   -- a value of the type may have this length in bits
-  pub data Length (S : Schema) : Tree → ℕ → Type 0 where
-    ofPrimitive : {p : ℕ} → Length S (leaf (primitive p)) (primitiveBits p)
-    ofSubByte : {g b : ℕ} → Length S (leaf (subByte g b)) b
-    ofSemantic : {m n : ℕ} → FixedOrAny (semanticBits m) n → Length S (leaf (semantic m)) n
-    ofNamed : {i n : ℕ} → ContentLength S (contentOf S i) n → Length S (leaf (named i)) n
-    ofBitsInline : {ns : List ℕ} → Length S (leaf (bitsInline ns)) (length ns)
-    ofQualified : {k n : ℕ} → Length S (leaf (qualified k)) n
-    ofWrap : {w : Wrap} {t : Tree} {n : ℕ} → WrapLength S (countOf w) t n → Length S (wrap w t) n
-    ofFixedArray : {t : Tree} {k n : ℕ} → Copies S t k n → Length S (fixedArray t k) n
-    ofMap : {t u : Tree} {n : ℕ} → 8 ≤ n → Length S (pair mapOf t u) n
-    ofOk : {t u : Tree} {n : ℕ} → Length S t n → Length S (pair resultOf t u) (1 + n)
-    ofErr : {t u : Tree} {n : ℕ} → Length S u n → Length S (pair resultOf t u) (1 + n)
-    ofGeneric : {k n : ℕ} {t : Tree} → Length S (generic k t) n
+  pub data Length (L : Layout) (S : Schema) : Tree → ℕ → Type 0 where
+    ofPrimitive : {p : ℕ} → Length L S (leaf (primitive p)) (primitiveBits p)
+    ofSubByte : {g b : ℕ} → Length L S (leaf (subByte g b)) b
+    ofSemantic : {m n : ℕ} → FixedOrAny (semanticBits m) n → Length L S (leaf (semantic m)) n
+    ofNamed : {i n : ℕ} → ContentLength L S (contentOf S i) n → Length L S (leaf (named i)) n
+    ofBitsInline : {ns : List ℕ} → Length L S (leaf (bitsInline ns)) (length ns)
+    ofQualified : {k n : ℕ} → Length L S (leaf (qualified k)) n
+    ofWrap : {w : Wrap} {t : Tree} {n : ℕ} → WrapLength L S (countOf w) t n → Length L S (wrap w t) n
+    ofFixedArray : {t : Tree} {k n : ℕ} → Copies L S t k n → Length L S (fixedArray t k) n
+    ofMap : {t u : Tree} {n : ℕ} → 8 ≤ n → Length L S (pair mapOf t u) n
+    ofOk : {t u : Tree} {n : ℕ} → Length L S t n → Length L S (pair resultOf t u) (1 + n)
+    ofErr : {t u : Tree} {n : ℕ} → Length L S u n → Length L S (pair resultOf t u) (1 + n)
+    ofGeneric : {k n : ℕ} {t : Tree} → Length L S (generic k t) n
 
   -- kinds with one child
-  pub data WrapLength (S : Schema) : Count → Tree → ℕ → Type 0 where
-    absent : {t : Tree} → WrapLength S atMostOne t 1
-    present : {t : Tree} {n : ℕ} → Length S t n → WrapLength S atMostOne t (1 + n)
+  pub data WrapLength (L : Layout) (S : Schema) : Count → Tree → ℕ → Type 0 where
+    absent : {t : Tree} → WrapLength L S atMostOne t 1
+    present : {t : Tree} {n : ℕ} → Length L S t n → WrapLength L S atMostOne t (1 + n)
     -- Array, Set
-    ofElements : {t : Tree} {n : ℕ} → 8 ≤ n → WrapLength S anyNumber t n
-    ofCopies : {t : Tree} {k n : ℕ} → Copies S t k n → WrapLength S (exactly k) t n
+    ofElements : {t : Tree} {n : ℕ} → 8 ≤ n → WrapLength L S anyNumber t n
+    ofCopies : {t : Tree} {k n : ℕ} → Copies L S t k n → WrapLength L S (exactly k) t n
 
   -- a sum of that many lengths of the type
-  pub data Copies (S : Schema) : Tree → ℕ → ℕ → Type 0 where
-    noCopy : {t : Tree} → Copies S t 0 0
-    oneCopy : {t : Tree} {k n m : ℕ} → Length S t n → Copies S t k m → Copies S t (suc k) (n + m)
+  pub data Copies (L : Layout) (S : Schema) : Tree → ℕ → ℕ → Type 0 where
+    noCopy : {t : Tree} → Copies L S t 0 0
+    oneCopy : {t : Tree} {k n m : ℕ} → Length L S t n → Copies L S t k m → Copies L S t (suc k) (n + m)
 
   -- a type in an encoding
-  pub data EncodedLength (S : Schema) : Encoding → Tree → ℕ → Type 0 where
-    plain : {t : Tree} {n : ℕ} → Length S t n → EncodedLength S default t n
-    ofVarint : {t : Tree} {n : ℕ} → InSpan (varintEnd t) n → EncodedLength S varint t n
-    ofZigZag : {t : Tree} {n : ℕ} → InSpan (zigZagEnd t) n → EncodedLength S zigZag t n
-    ofDelta : {e : Encoding} {t : Tree} {n : ℕ} → EncodedLength S e t n → EncodedLength S (delta e) t n
+  pub data EncodedLength (L : Layout) (S : Schema) : Encoding → Tree → ℕ → Type 0 where
+    plain : {t : Tree} {n : ℕ} → Length L S t n → EncodedLength L S default t n
+    ofVarint : {t : Tree} {n : ℕ} → InSpan (varintEnd t) n → EncodedLength L S varint t n
+    ofZigZag : {t : Tree} {n : ℕ} → InSpan (zigZagEnd t) n → EncodedLength L S zigZag t n
+    ofDelta : {e : Encoding} {t : Tree} {n : ℕ} → EncodedLength L S e t n → EncodedLength L S (delta e) t n
 
   -- a sum over fields
-  pub data FieldsLength (S : Schema) : List Field → ℕ → Type 0 where
-    noField : FieldsLength S [] 0
-    oneField : {f : Field} {fs : List Field} {n m : ℕ} → EncodedLength S (f .encoding) (f .type) n →
-        FieldsLength S fs m → FieldsLength S (f ∷ fs) (n + m)
+  pub data FieldsLength (L : Layout) (S : Schema) : List Field → ℕ → Type 0 where
+    noField : FieldsLength L S [] 0
+    oneField : {f : Field} {fs : List Field} {n m : ℕ} → EncodedLength L S (f .encoding) (f .type) n →
+        FieldsLength L S fs m → FieldsLength L S (f ∷ fs) (roundUp L n + m)
 
   -- what a name stands for
-  pub data ContentLength (S : Schema) : Content → ℕ → Type 0 where
-    ofMessage : {fs : List Field} {n : ℕ} → FieldsLength S fs n → ContentLength S (fields fs) n
-    ofVariant : {vs : List (List Field)} {v : List Field} {n : ℕ} → List·Memᴰ v vs → FieldsLength S v n →
-        ContentLength S (variants vs) (8 + n)
-    ofNoVariant : ContentLength S (variants []) 8
-    ofBits : {b : ℕ} → ContentLength S (bits b) b
-    ofTerminal : {t : Tree} {n : ℕ} → Length S t n → ContentLength S (terminal t) n
-    ofAnything : {n : ℕ} → ContentLength S anything n
+  pub data ContentLength (L : Layout) (S : Schema) : Content → ℕ → Type 0 where
+    ofMessage : {fs : List Field} {n : ℕ} → FieldsLength L S fs n → ContentLength L S (fields fs) n
+    ofVariant : {vs : List (List Field)} {v : List Field} {n : ℕ} → List·Memᴰ v vs → FieldsLength L S v n →
+        ContentLength L S (variants vs) (8 + n)
+    ofNoVariant : ContentLength L S (variants []) 8
+    ofBits : {b : ℕ} → ContentLength L S (bits b) b
+    ofTerminal : {t : Tree} {n : ℕ} → Length L S t n → ContentLength L S (terminal t) n
+    ofAnything : {n : ℕ} → ContentLength L S anything n
 
 -- ## What a type is made of
 
@@ -187,9 +187,9 @@ pub record Encloses (P : ℕ → Type 0) (s : Size) : Type 0 where
   pub within : (n : ℕ) → P n → Within n s
 
 -- the lengths of a slot's type
-abbrev pub SlotLength : Schema → ℕ → ℕ → Type 0
-SlotLength S i = Length S (leaf (named i))
+abbrev pub SlotLength : Layout → Schema → ℕ → ℕ → Type 0
+SlotLength L S i = Length L S (leaf (named i))
 
 -- each stored size is ordered and encloses its type's lengths
-abbrev pub Trusted : Schema → State → Type 0
-Trusted S st = (i : ℕ) (s : Size) → st i ≡ some s → Encloses (SlotLength S i) s
+abbrev pub Trusted : Layout → Schema → State → Type 0
+Trusted L S st = (i : ℕ) (s : Size) → st i ≡ some s → Encloses (SlotLength L S i) s

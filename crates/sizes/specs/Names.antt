@@ -11,7 +11,7 @@ use Rattle.slot.specs.Field.{Field}
 use Rattle.slot.specs.Slot.{Slot, empty, message, enum, flags, union, newtype, config, alias, trait, impl}
 use Rattle.image.specs.Schema.{Schema, slotOf}
 use Rattle.sizes.specs.Widths.{enumBitsAt, flagsBytesAt}
-use Rattle.sizes.specs.Sizes.{Size, Fixed, Open, Worked, Sized, Resolver, typeSize, fieldsSize, unionSize}
+use Rattle.sizes.specs.Sizes.{Size, Fixed, Open, Layout, Worked, Sized, Resolver, typeSize, fieldsSize, unionSize}
 
 -- what a slot is to a name of it
 pub data Content : Type 0 where
@@ -61,37 +61,37 @@ orElse none w = w
 
 -- a slot that is not being worked out: a message or union uses its stored size if any, else its fields are worked out, with
 -- the slot being worked out inside; a newtype is its terminal
-unfoldable pub contentSize : (stored : Option Size) → (beside inside : Resolver) → Content → Worked
-contentSize stored beside inside (fields fs) = orElse stored (fieldsSize inside fs)
-contentSize stored beside inside (variants vs) = orElse stored (unionSize inside vs)
-contentSize stored beside inside (bits b) = Sized (Fixed b)
-contentSize stored beside inside (terminal t) = typeSize beside t
-contentSize stored beside inside anything = Sized (Open 0)
+unfoldable pub contentSize : Layout → (stored : Option Size) → (beside inside : Resolver) → Content → Worked
+contentSize L stored beside inside (fields fs) = orElse stored (fieldsSize L inside fs)
+contentSize L stored beside inside (variants vs) = orElse stored (unionSize L inside vs)
+contentSize L stored beside inside (bits b) = Sized (Fixed b)
+contentSize L stored beside inside (terminal t) = typeSize beside t
+contentSize L stored beside inside anything = Sized (Open 0)
 
 -- the rule for a name, given what the names in its parts come to: an id being worked out is tested first
-unfoldable pub nameRule : Schema → State → (Working → Resolver) → Working → Resolver
-nameRule S st names working i =
-    cond (working i) (Sized (Open 0)) (contentSize (st i) (names working) (names (inserted i working)) (contentOf S i))
+unfoldable pub nameRule : Layout → Schema → State → (Working → Resolver) → Working → Resolver
+nameRule L S st names working i =
+    cond (working i) (Sized (Open 0)) (contentSize L (st i) (names working) (names (inserted i working)) (contentOf S i))
 
 -- the rule, so many times over
-unfoldable pub nameWithin : Schema → State → (times : ℕ) → Working → Resolver
-nameWithin S st zero working i = Sized (Open 0)
-nameWithin S st (suc k) working i = nameRule S st (nameWithin S st k) working i
+unfoldable pub nameWithin : Layout → Schema → State → (times : ℕ) → Working → Resolver
+nameWithin L S st zero working i = Sized (Open 0)
+nameWithin L S st (suc k) working i = nameRule L S st (nameWithin L S st k) working i
 
 -- newtypes are passed again for each slot being worked out
 abbrev pub enough : Schema → ℕ
 enough S = suc (length (S .slots)) * suc (suc (length (S .slots)))
 
 -- it obeys the rule, and nothing else does (`NamesObey`)
-unfoldable pub nameSize : Schema → State → Working → Resolver
-nameSize S st working i = nameWithin S st (enough S) working i
+unfoldable pub nameSize : Layout → Schema → State → Working → Resolver
+nameSize L S st working i = nameWithin L S st (enough S) working i
 
 -- what goes by the rule for names, whatever is being worked out
-abbrev pub GoesByRule : Schema → State → (Working → Resolver) → Type 0
-GoesByRule S st names = (working : Working) (i : ℕ) → names working i ≡ nameRule S st names working i
+abbrev pub GoesByRule : Layout → Schema → State → (Working → Resolver) → Type 0
+GoesByRule L S st names = (working : Working) (i : ℕ) → names working i ≡ nameRule L S st names working i
 
 -- whatever is stored, names go by the rule, and nothing else does: how many times over is no part of what a name comes to
-pub record NamesObey (S : Schema) : Type 0 where
-  pub obey : (st : State) → GoesByRule S st (nameSize S st)
-  pub alone : (st : State) (names : Working → Resolver) → GoesByRule S st names → (working : Working) (i : ℕ) →
-      names working i ≡ nameSize S st working i
+pub record NamesObey (L : Layout) (S : Schema) : Type 0 where
+  pub obey : (st : State) → GoesByRule L S st (nameSize L S st)
+  pub alone : (st : State) (names : Working → Resolver) → GoesByRule L S st names → (working : Working) (i : ℕ) →
+      names working i ≡ nameSize L S st working i

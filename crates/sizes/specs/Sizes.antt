@@ -1,5 +1,5 @@
 -- Sizes of types, of fields, and of messages and unions by their fields, where it is known what names come to.
-use Prim.Native.Nat.{ℕ, _+_, _-_, _*_, _^_, min, max}
+use Prim.Native.Nat.{ℕ, _+_, _-_, _*_, _/_, _^_, min, max}
 use mathlib.Core.Bool.{Bool, true, false, cond, _&&_, _||_}
 use mathlib.Core.List.{List, [], _∷_}
 use mathlib.Core.Option.{Option, none, some}
@@ -14,6 +14,8 @@ pub use Rattle.sizes.specs.declared.Operation.{Operation}
 pub use Rattle.sizes.specs.declared.Operation.the-variants.{Sum, Product}
 pub use Rattle.sizes.specs.declared.Worked.{Worked}
 pub use Rattle.sizes.specs.declared.Worked.the-variants.{Sized, Over}
+pub use Rattle.sizes.specs.declared.Layout.{Layout}
+pub use Rattle.sizes.specs.declared.Layout.the-variants.{Packed, Aligned}
 
 -- ## A size: smallest, largest if any, and whether it is Fixed
 
@@ -195,9 +197,33 @@ encodedSize r varint t = Sized (Bounded 8 (varintEnd t))
 encodedSize r zigZag t = Sized (Bounded 8 (zigZagEnd t))
 encodedSize r (delta e) t = encodedSize r e t
 
+-- the next multiple of 8
+abbrev pub toBytes : ℕ → ℕ
+toBytes n = (n + 7) / 8 * 8
+
+-- the rounding rule of a layout
+abbrev pub roundUp : Layout → ℕ → ℕ
+roundUp Packed n = n
+roundUp Aligned n = toBytes n
+
+-- both ends rounded; Fixed stays Fixed, and nothing becomes so
+abbrev pub rounded : (up : ℕ → ℕ) → Size → Size
+rounded up (Fixed b) = Fixed (up b)
+rounded up (Bounded l h) = Bounded (up l) (up h)
+rounded up (Open l) = Open (up l)
+
+-- rounding counts as a sum
+abbrev pub laid : Layout → Size → Worked
+laid Packed s = Sized s
+laid Aligned s = limitedSum (rounded toBytes s)
+
+-- a field by itself
+abbrev pub fieldAlone : Resolver → Field → Worked
+fieldAlone r f = encodedSize r (f .encoding) (f .type)
+
 -- a field's size, as it is added
-unfoldable pub fieldSize : Resolver → Field → Worked
-fieldSize r f = encodedSize r (f .encoding) (f .type)
+unfoldable pub fieldSize : Layout → Resolver → Field → Worked
+fieldSize L r f = then (fieldAlone r f) (laid L)
 
 -- ## Messages
 
@@ -211,14 +237,14 @@ abbrev pub added : Size → Size → Size
 added s s′ = marked (isFixed s && isFixed s′) (smallest s + smallest s′) (both _+_ (largest s) (largest s′))
 
 -- the running total, and the fields that are still to be added
-unfoldable pub addFields : Resolver → (total : Size) → List Field → Worked
-addFields r total [] = Sized total
-addFields r total (f ∷ fs) =
-    then (fieldSize r f) (λ s. then (limitedSum (added total s)) (λ total′. addFields r total′ fs))
+unfoldable pub addFields : Layout → Resolver → (total : Size) → List Field → Worked
+addFields L r total [] = Sized total
+addFields L r total (f ∷ fs) =
+    then (fieldSize L r f) (λ s. then (limitedSum (added total s)) (λ total′. addFields L r total′ fs))
 
 -- a message's fields, or a variant's
-abbrev pub fieldsSize : Resolver → List Field → Worked
-fieldsSize r fs = addFields r (Fixed 0) fs
+abbrev pub fieldsSize : Layout → Resolver → List Field → Worked
+fieldsSize L r fs = addFields L r (Fixed 0) fs
 
 -- ## Unions
 
@@ -227,11 +253,11 @@ abbrev pub mark : ℕ
 mark = 2 ^ 64 - 1
 
 -- the extremes so far, and the variants that are still to be looked at
-unfoldable pub addVariants : Resolver → (extremes : Size) → List (List Field) → Worked
-addVariants r extremes [] = Sized extremes
-addVariants r extremes (v ∷ vs) = then (fieldsSize r v) (λ s. addVariants r (widened extremes s) vs)
+unfoldable pub addVariants : Layout → Resolver → (extremes : Size) → List (List Field) → Worked
+addVariants L r extremes [] = Sized extremes
+addVariants L r extremes (v ∷ vs) = then (fieldsSize L r v) (λ s. addVariants L r (widened extremes s) vs)
 
 -- 8 plus the extremes over variants; 8..8 where there is none
-unfoldable pub unionSize : Resolver → List (List Field) → Worked
-unionSize r [] = Sized (Bounded 8 8)
-unionSize r (v ∷ vs) = then (addVariants r (Bounded mark 0) (v ∷ vs)) (λ s. limitedSum (raised 8 s))
+unfoldable pub unionSize : Layout → Resolver → List (List Field) → Worked
+unionSize L r [] = Sized (Bounded 8 8)
+unionSize L r (v ∷ vs) = then (addVariants L r (Bounded mark 0) (v ∷ vs)) (λ s. limitedSum (raised 8 s))

@@ -8,7 +8,7 @@ use mathlib.Core.Option.{Option, none, some}
 use lib.Dec.{ltb}
 use borrow.Author.Tests.{ltb-false}
 use Rattle.slot.specs.Field.{Field}
-use Rattle.sizes.specs.Sizes.{Size, Fixed, Bounded, Open, Operation, Sum, Worked, Sized, Over, smallest, largest, variable, both, limit, passes, limited, then, widened, Resolver, fieldSize, added, addFields, fieldsSize, mark, addVariants}
+use Rattle.sizes.specs.Sizes.{Layout, Size, Fixed, Bounded, Open, Operation, Sum, Worked, Sized, Over, smallest, largest, variable, both, limit, passes, limited, then, widened, Resolver, fieldSize, added, addFields, fieldsSize, mark, addVariants}
 
 pub sized-inj : {s s′ : Size} → Sized s ≡ Sized s′ → s ≡ s′
 sized-inj e = cc
@@ -63,42 +63,42 @@ step-made o w op s e =
 -- ## Adding fields and variants
 
 -- a field that was added to a running total, and what its other fields came to
-pub record FieldAdded (r : Resolver) (total : Size) (f : Field) (fs : List Field) (s : Size) : Type 0 where
+pub record FieldAdded (L : Layout) (r : Resolver) (total : Size) (f : Field) (fs : List Field) (s : Size) : Type 0 where
   pub size : Size
-  pub worked : fieldSize r f ≡ Sized size
+  pub worked : fieldSize L r f ≡ Sized size
   pub small : smallest (added total size) ≤ limit
-  pub rest : addFields r (added total size) fs ≡ Sized s
+  pub rest : addFields L r (added total size) fs ≡ Sized s
 
-pub field-added : (r : Resolver) (total : Size) (f : Field) (fs : List Field) (s : Size) →
-    addFields r total (f ∷ fs) ≡ Sized s → FieldAdded r total f fs s
+pub field-added : (L : Layout) (r : Resolver) (total : Size) (f : Field) (fs : List Field) (s : Size) →
+    addFields L r total (f ∷ fs) ≡ Sized s → FieldAdded L r total f fs s
 unfolding addFields
-field-added r total f fs s q =
-    let m = then-made (fieldSize r f) (λ x. then (limited Sum (added total x)) (λ total′. addFields r total′ fs)) s q in
-    let m′ = then-made (limited Sum (added total (m .part))) (λ total′. addFields r total′ fs) s (m .made) in
+field-added L r total f fs s q =
+    let m = then-made (fieldSize L r f) (λ x. then (limited Sum (added total x)) (λ total′. addFields L r total′ fs)) s q in
+    let m′ = then-made (limited Sum (added total (m .part))) (λ total′. addFields L r total′ fs) s (m .made) in
     let k = limited-kept Sum (added total (m .part)) (m′ .part) (m′ .given) in
     record { size = m .part; worked = m .given; small = k .small; rest = rw (k .same) (m′ .made) }
 
 -- the fields of a variant, and what the other variants came to
-abbrev pub VariantAdded : Resolver → (extremes : Size) → List Field → List (List Field) → Size → Type 0
-VariantAdded r extremes v vs s = Made (fieldsSize r v) (λ x. addVariants r (widened extremes x) vs) s
+abbrev pub VariantAdded : Layout → Resolver → (extremes : Size) → List Field → List (List Field) → Size → Type 0
+VariantAdded L r extremes v vs s = Made (fieldsSize L r v) (λ x. addVariants L r (widened extremes x) vs) s
 
-pub variant-added : (r : Resolver) (extremes : Size) (v : List Field) (vs : List (List Field)) (s : Size) →
-    addVariants r extremes (v ∷ vs) ≡ Sized s → VariantAdded r extremes v vs s
+pub variant-added : (L : Layout) (r : Resolver) (extremes : Size) (v : List Field) (vs : List (List Field)) (s : Size) →
+    addVariants L r extremes (v ∷ vs) ≡ Sized s → VariantAdded L r extremes v vs s
 unfolding addVariants
-variant-added r extremes v vs s q = then-made (fieldsSize r v) (λ x. addVariants r (widened extremes x) vs) s q
+variant-added L r extremes v vs s q = then-made (fieldsSize L r v) (λ x. addVariants L r (widened extremes x) vs) s q
 
 -- ## The union's mark
 
-add-small : (r : Resolver) (fs : List Field) (total s : Size) → smallest total ≤ limit →
-    addFields r total fs ≡ Sized s → smallest s ≤ limit
+add-small : (L : Layout) (r : Resolver) (fs : List Field) (total s : Size) → smallest total ≤ limit →
+    addFields L r total fs ≡ Sized s → smallest s ≤ limit
 unfolding addFields
-add-small r [] total s le q = rw (sized-inj q) at le
-add-small r (f ∷ fs) total s le q =
-    let a = field-added r total f fs s q in
-    add-small r fs (added total (a .size)) s (a .small) (a .rest)
+add-small L r [] total s le q = rw (sized-inj q) at le
+add-small L r (f ∷ fs) total s le q =
+    let a = field-added L r total f fs s q in
+    add-small L r fs (added total (a .size)) s (a .small) (a .rest)
 
-pub fields-small : (r : Resolver) (fs : List Field) (s : Size) → fieldsSize r fs ≡ Sized s → smallest s ≤ limit
-fields-small r fs s q = add-small r fs (Fixed 0) s (omega arith) q
+pub fields-small : (L : Layout) (r : Resolver) (fs : List Field) (s : Size) → fieldsSize L r fs ≡ Sized s → smallest s ≤ limit
+fields-small L r fs s q = add-small L r fs (Fixed 0) s (omega arith) q
 
 max-largest : (h : Option ℕ) → both max (some 0) h ≡ h
 max-largest (some h) = ap some (omega arith)

@@ -10,25 +10,25 @@ use Rattle.slot.specs.Slot.{Slot, empty, message, enum, flags, union, newtype, 
 use Rattle.image.specs.Schema.{Schema, slotOf}
 use Rattle.image.specs.Without.{fieldsWithout, slotWithout, without, slot-without}
 use Rattle.sizes.specs.Widths.{enumBits, flagsBytes, enumBitsAt, flagsBytesAt}
-use Rattle.sizes.specs.Sizes.{Size, Worked, limitedSum, then, Resolver, widened, raised, fieldSize, added, addFields, mark, addVariants, unionSize, Bounded}
+use Rattle.sizes.specs.Sizes.{Layout, Size, Worked, limitedSum, then, Resolver, widened, raised, fieldSize, added, addFields, mark, addVariants, unionSize, Bounded}
 use Rattle.sizes.specs.Names.{Content, fields, variants, contentIn, contentOf, State, nothing, Working, inserted, orElse, contentSize, nameRule, nameWithin, nameSize}
 use Rattle.sizes.specs.Check.{broughtIn, brought, bodySize, ownSize, storing, turn, onward, turns, checkSizes, slotRow, rowsFrom, tableOf}
 
 -- ## Fields
 
-module _ (r : Resolver) where
-  add-without : (fs : List Field) (total : Size) → addFields r total (fieldsWithout fs) ≡ addFields r total fs
+module _ (L : Layout) (r : Resolver) where
+  add-without : (fs : List Field) (total : Size) → addFields L r total (fieldsWithout fs) ≡ addFields L r total fs
   unfolding addFields fieldSize
   add-without [] total = refl
   add-without (f ∷ fs) total =
-      ap (λ (k : Size → Worked). then (fieldSize r f) (λ s. then (limitedSum (added total s)) k)) (fun-ext (add-without fs))
+      ap (λ (k : Size → Worked). then (fieldSize L r f) (λ s. then (limitedSum (added total s)) k)) (fun-ext (add-without fs))
 
-  variants-without : (vs : List (List Field)) (extremes : Size) → addVariants r extremes (map fieldsWithout vs) ≡ addVariants r extremes vs
+  variants-without : (vs : List (List Field)) (extremes : Size) → addVariants L r extremes (map fieldsWithout vs) ≡ addVariants L r extremes vs
   unfolding addVariants
   variants-without [] extremes = refl
   variants-without (v ∷ vs) extremes = ap₂ then (add-without v _) (fun-ext (λ s. variants-without vs (widened extremes s)))
 
-  union-without : (vs : List (List Field)) → unionSize r (map fieldsWithout vs) ≡ unionSize r vs
+  union-without : (vs : List (List Field)) → unionSize L r (map fieldsWithout vs) ≡ unionSize L r vs
   unfolding unionSize
   union-without [] = refl
   union-without (v ∷ vs) = ap (λ (w : Worked). then w (λ s. limitedSum (raised 8 s))) (variants-without (v ∷ vs) (Bounded mark 0))
@@ -55,43 +55,43 @@ module _ (S : Schema) where
       by-kind (trait t) = refl
       by-kind (impl m) = refl
 
-  module _ (st : State) where
-    rule-without : (names : Working → Resolver) (working : Working) (i : ℕ) → nameRule (without S) st names working i ≡ nameRule S st names working i
+  module _ (L : Layout) (st : State) where
+    rule-without : (names : Working → Resolver) (working : Working) (i : ℕ) → nameRule L (without S) st names working i ≡ nameRule L S st names working i
     unfolding nameRule contentSize
     rule-without names working i =
         let inside = names (inserted i working) in
         ap (cond (working i) _)
-        (content-without (contentSize (st i) (names working) inside)
-        (λ fs. ap (orElse (st i)) (add-without inside fs _)) (λ vs. ap (orElse (st i)) (union-without inside vs)) i)
+        (content-without (contentSize L (st i) (names working) inside)
+        (λ fs. ap (orElse (st i)) (add-without L inside fs _)) (λ vs. ap (orElse (st i)) (union-without L inside vs)) i)
 
-    within-without : (k : ℕ) (working : Working) (i : ℕ) → nameWithin (without S) st k working i ≡ nameWithin S st k working i
+    within-without : (k : ℕ) (working : Working) (i : ℕ) → nameWithin L (without S) st k working i ≡ nameWithin L S st k working i
     unfolding nameWithin
     within-without zero working i = refl
     within-without (suc k) working i =
-        rule-without (nameWithin (without S) st k) working i
-        ∙ ap (λ (names : Working → Resolver). nameRule S st names working i) (fun-ext (λ w. fun-ext (within-without k w)))
+        rule-without (nameWithin L (without S) st k) working i
+        ∙ ap (λ (names : Working → Resolver). nameRule L S st names working i) (fun-ext (λ w. fun-ext (within-without k w)))
 
-    name-without : (working : Working) → nameSize (without S) st working ≡ nameSize S st working
+    name-without : (working : Working) → nameSize L (without S) st working ≡ nameSize L S st working
     unfolding nameSize without
     name-without working = fun-ext (λ i. rw (length-map (S .slots) slotWithout) (within-without _ working i))
 
     -- ## Turns
 
-    own-without : (i : ℕ) → ownSize (without S) st i ≡ ownSize S st i
+    own-without : (i : ℕ) → ownSize L (without S) st i ≡ ownSize L S st i
     unfolding ownSize bodySize
     own-without i =
-        let r = nameSize S st (inserted i nothing) in
+        let r = nameSize L S st (inserted i nothing) in
         rw (name-without (inserted i nothing))
-        (content-without (bodySize r) (λ fs. ap some (add-without r fs _)) (λ vs. ap some (union-without r vs)) i)
+        (content-without (bodySize L r) (λ fs. ap some (add-without L r fs _)) (λ vs. ap some (union-without L r vs)) i)
 
-    turn-without : (i : ℕ) → turn (without S) st i ≡ turn S st i
+    turn-without : (i : ℕ) → turn L (without S) st i ≡ turn L S st i
     unfolding turn
     turn-without i = ap (storing st i) (own-without i)
 
-  turns-without : (is : List ℕ) (st : State) → turns (without S) st is ≡ turns S st is
+  turns-without : (L : Layout) (is : List ℕ) (st : State) → turns L (without S) st is ≡ turns L S st is
   unfolding turns
-  turns-without [] st = refl
-  turns-without (i ∷ is) st = ap₂ onward (turn-without st i) (fun-ext (turns-without is))
+  turns-without L [] st = refl
+  turns-without L (i ∷ is) st = ap₂ onward (turn-without L st i) (fun-ext (turns-without L is))
 
   -- the sizes that the image brings
   pub brings-without : brought (without S) ≡ brought S
@@ -110,9 +110,9 @@ module _ (S : Schema) where
       by-kind (trait t) = refl
       by-kind (impl m) = refl
 
-  pub sizes-without : checkSizes (without S) ≡ checkSizes S
+  pub sizes-without : (L : Layout) → checkSizes L (without S) ≡ checkSizes L S
   unfolding checkSizes without
-  sizes-without = turns-without (S .declared) (brought (without S)) ∙ ap (λ (st : State). turns S st (S .declared)) brings-without
+  sizes-without L = turns-without L (S .declared) (brought (without S)) ∙ ap (λ (st : State). turns L S st (S .declared)) brings-without
 
   -- ## The size table
 

@@ -18,3 +18,9 @@ pub enum Worked {
     Sized(Size),
     Over(Operation),
 }
+
+// How fields follow one another: bit by bit, or each from a whole byte on, as on the head board.
+pub enum Layout {
+    Packed,
+    Aligned,
+}

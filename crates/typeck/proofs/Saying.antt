@@ -12,11 +12,10 @@ use Rattle.table.proofs.Fitting.{fitted-length}
 use Rattle.image.specs.Schema.{Schema}
 use Rattle.reader.specs.Reading.{readingOf, schemaOf}
 use Rattle.reader.specs.declared.Reading.{Reading}
-use Rattle.sizes.specs.Check.{Checked, checkSizes}
-use Rattle.sizes.specs.Check as check
 use Rattle.sizes.specs.Demand.{Demand3}
-use Rattle.turns.specs.Sizing.{verdict, rowsIn, sizingIn, sizeRowsIn, sizingOf, sizesOf}
+use Rattle.turns.specs.Sizing.{layoutOf, tableBy, sizesOf}
 use Rattle.turns.specs.Sizing as sizing
+use Rattle.turns.specs.declared.Entry.{Entry}
 use Rattle.turns.specs.declared.Sizing.{Sizing}
 use Rattle.findings.specs.Finding.{noted, rowsOf}
 use Rattle.findings.specs.Adding.{Adds}
@@ -79,53 +78,39 @@ module _ (S : Schema) (sizes findings : List ℕ) where
       all-found 0 findings (ap length (sym n), h ∙ ap (noted (length findings)) (sym n)) (omega arith)
 
 -- the sizes stand, and the findings were looked for
-pub found-said : (ed : Edition) (s sizes findings : List ℕ) (z : Sizing) (mid after cleared b : List ℕ) (r : Verdict) (own : Edition) → sizing.Answered ed s sizes mid z
-    → z ≡ Sizing.Accepted → length cleared ≡ length findings → own ≡ ed → Found (schemaOf own s) mid after cleared b r → Answered ed s sizes after findings b r
+pub found-said : (E : Entry) (ed : Edition) (s sizes findings : List ℕ) (z : Sizing) (mid after cleared b : List ℕ) (r : Verdict) (own : Edition) → sizing.Answered E ed s sizes mid z
+    → z ≡ Sizing.Accepted → length cleared ≡ length findings → own ≡ ed → Found (schemaOf own s) mid after cleared b r → Answered E ed s sizes after findings b r
 unfolding verdictOf verdictIn sizeTable findingTable sizesOf
-found-said ed s sizes findings z mid after cleared b r own d e q same found =
+found-said E ed s sizes findings z mid after cleared b r own d e q same found =
     let S = schemaOf ed s in
     let f = subst (λ (x : Edition). Found (schemaOf x s) mid after cleared b r) same found in
-    let a : r ≡ verdictOf ed (length sizes) (length findings) s
+    let a : r ≡ verdictOf E ed (length sizes) (length findings) s
     = f .answer ∙ ap (λ (n : ℕ). judged n S) q ∙ ap (verdictIn (length findings) S) (sym e ∙ d .answer) in
     let n : length mid ≡ length sizes = ap length (d .table) ∙ fitted-length (length sizes) _ in
     record {
       answer = a;
-      sizeTable = f .sizeTable ∙ ap (λ (k : ℕ). onAccepted r k mid) n ∙ ap (onAccepted r (length sizes)) (d .table) ∙ ap (λ (v : Verdict). onAccepted v (length sizes) (sizesOf ed (length sizes) s)) a;
+      sizeTable = f .sizeTable ∙ ap (λ (k : ℕ). onAccepted r k mid) n ∙ ap (onAccepted r (length sizes)) (d .table) ∙ ap (λ (v : Verdict). onAccepted v (length sizes) (sizesOf E ed (length sizes) s)) a;
       findingTable = f .findingTable
           ∙ ap (λ (k : ℕ). onAccepted r k (noted k (findingsOf S))) q
           ∙ ap (λ (v : Verdict). onAccepted v (length findings) (noted (length findings) (findingsOf S))) a;
-      demand = λ m h. subst (λ (t : List ℕ). Demand3 S t) (sym (f .sizeTable ∙ ap (λ (v : Verdict). onAccepted v (length mid) mid) h)) (d .demand e);
+      demand = λ m h. subst (λ (t : List ℕ). Demand3 (layoutOf E) S t) (sym (f .sizeTable ∙ ap (λ (v : Verdict). onAccepted v (length mid) mid) h)) (d .demand e);
       names = d .names;
       limits = limits-enough ed s;
     }
-
-verdict-rows : (S : Schema) (c : Checked) (n i : ℕ) → verdict c ≡ Sizing.Refused n i → rowsIn S c ≡ []
-verdict-rows S (check.accepted st) n i e = let z : _≡_ {A = ℕ} 0 1 = cc in absurd (omega arith)
-verdict-rows S (check.refused o j) n i e = refl
-
--- on a refusal there are no rows
-no-rows : (places : ℕ) (S : Schema) (x : Reading) (n i : ℕ) → sizingIn places S x ≡ Sizing.Refused n i → sizeRowsIn places S x ≡ []
-unfolding sizingIn sizeRowsIn
-no-rows places S (Reading.Refused r p) n i e = refl
-no-rows places S (Reading.Accepted f) n i e = go (ltb places (3 * length (S .slots))) e
-  where
-    go : (b : Bool) → cond b (Sizing.Refused 10 0) (verdict (checkSizes S)) ≡ Sizing.Refused n i → cond b [] (rowsIn S (checkSizes S)) ≡ []
-    go true h = refl
-    go false h = verdict-rows S (checkSizes S) n i h
 
 not-accepted : {n p m : ℕ} → Verdict.Refused n p ≡ Verdict.Accepted m → ⊥
 not-accepted e = let z : _≡_ {A = ℕ} 0 1 = cc in omega arith
 
 -- a refusal that comes before findings
-pub refused-said : (ed : Edition) (s sizes findings : List ℕ) (z : Sizing) (n i : ℕ) (after b : List ℕ) → sizing.Answered ed s sizes after z → z ≡ Sizing.Refused n i
-    → b ≡ fitted (length findings) [] → Answered ed s sizes after findings b (Verdict.Refused n i)
-unfolding verdictOf verdictIn sizeTable findingTable sizingOf sizesOf
-refused-said ed s sizes findings z n i after b d e q =
+pub refused-said : (E : Entry) (ed : Edition) (s sizes findings : List ℕ) (z : Sizing) (n i : ℕ) (after b : List ℕ) → sizing.Answered E ed s sizes after z → z ≡ Sizing.Refused n i
+    → b ≡ fitted (length findings) [] → Answered E ed s sizes after findings b (Verdict.Refused n i)
+unfolding verdictOf verdictIn sizeTable findingTable sizesOf
+refused-said E ed s sizes findings z n i after b d e q =
     let k = sym (d .answer) ∙ e in
-    let a : Verdict.Refused n i ≡ verdictOf ed (length sizes) (length findings) s = ap (verdictIn (length findings) (schemaOf ed s)) (sym k) in
+    let a : Verdict.Refused n i ≡ verdictOf E ed (length sizes) (length findings) s = ap (verdictIn (length findings) (schemaOf ed s)) (sym k) in
     record {
       answer = a;
-      sizeTable = d .table ∙ ap (fitted (length sizes)) (no-rows (length sizes) (schemaOf ed s) (readingOf ed s) n i k) ∙ ap (λ (v : Verdict). onAccepted v (length sizes) (sizesOf ed (length sizes) s)) a;
+      sizeTable = d .table ∙ ap (tableBy (layoutOf E) (length sizes) (schemaOf ed s)) k ∙ ap (λ (v : Verdict). onAccepted v (length sizes) (sizesOf E ed (length sizes) s)) a;
       findingTable = q ∙ ap (λ (v : Verdict). onAccepted v (length findings) (noted (length findings) (findingsOf (schemaOf ed s)))) a;
       demand = λ m h. absurd (not-accepted h);
       names = d .names;

@@ -5,6 +5,7 @@ use mathlib.Core.List.{List, [], _∷_, _++_, map}
 use Rattle.tree.specs.Tree.{wrap, fixedArray, pair, optional, vec3, resultOf}
 use Rattle.image.specs.Schema.{Schema, slotOf}
 use Rattle.sizes.specs.Widths.{highest, digits, bitLength, ordinalBits, enumBits, bytesTo, flagsBytes, has, enumBitsAt, flagsBytesAt}
+use Rattle.sizes.specs.declared.Layout.the-variants.{Packed}
 use Rattle.sizes.specs.Sizes.{limited, then, primitiveBits, semanticBits, leafSize, wrapSize, typeSize, varintEnd, zigZagEnd, encodedSize, fieldSize, addFields, addVariants, unionSize}
 use Rattle.sizes.specs.Names.{contentIn, contentOf, contentSize, nameRule, nameWithin, nameSize}
 use Rattle.sizes.specs.Check.{brought, bodySize, ownSize, store, storing, turn, onward, turns, checkSizes, row, slotRow, rowsFrom, tableOf}
@@ -22,7 +23,7 @@ pub record Line : Type 0 where
 
 -- what the check gives
 abbrev pub checked : Schema → Line
-checked S = record { of = S; sizes = answerOf S (checkSizes S); found = rowsOf (findingsOf S) }
+checked S = record { of = S; sizes = answerOf S (checkSizes Packed S); found = rowsOf (findingsOf S) }
 
 abbrev shows : Schema → List ℕ → Line
 shows S t = record { of = S; sizes = table t; found = [] }

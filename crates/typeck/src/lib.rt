@@ -2,6 +2,7 @@
 use image::Frame;
 use reader::Reading;
 use slot::Edition;
+use turns::Entry;
 use turns::Sizing;
 ghost use Rattle.reader.specs.Reading.{schemaOf};
 ghost use Rattle.reader.specs.Promise.{Promise};
@@ -105,8 +106,14 @@ fn find(
 
 // Checks an image. The size table gets three numbers a slot, the findings table six a finding, and zeros after them; on a
 // refusal both are zero.
-fn check_edition(image: &[u8], edition: Edition, sizes: &mut [u64], findings: &mut [u32]) -> Verdict
-    ensures { λ r. ⌜ Answered edition (now (image .entry)) (now (sizes .entry)) (now (sizes .exit)) (now (findings .entry)) (now (findings .exit)) r ⌝ }
+fn check_by(
+    image: &[u8],
+    edition: Edition,
+    entry: Entry,
+    sizes: &mut [u64],
+    findings: &mut [u32],
+) -> Verdict
+    ensures { λ r. ⌜ Answered entry edition (now (image .entry)) (now (sizes .entry)) (now (sizes .exit)) (now (findings .entry)) (now (findings .exit)) r ⌝ }
 {
     table::clear_findings(findings);
     let mut starts = [0usize; 512];
@@ -114,7 +121,7 @@ fn check_edition(image: &[u8], edition: Edition, sizes: &mut [u64], findings: &m
         Reading::Accepted(frame) => {
             let count = frame.slots as usize;
             let slots = &starts[0..count];
-            match turns::size_slots(image, slots, frame, sizes) {
+            match turns::size_slots(image, slots, frame, entry, sizes) {
                 Sizing::Accepted => find(image, slots, frame, sizes, findings),
                 Sizing::Refused(number, place) => Verdict::Refused(number, place),
             }
@@ -128,14 +135,28 @@ fn check_edition(image: &[u8], edition: Edition, sizes: &mut [u64], findings: &m
 
 // Checks an image of edition one.
 pub fn check(image: &[u8], sizes: &mut [u64], findings: &mut [u32]) -> Verdict
-    ensures { λ r. ⌜ Answered Edition.One (now (image .entry)) (now (sizes .entry)) (now (sizes .exit)) (now (findings .entry)) (now (findings .exit)) r ⌝ }
+    ensures { λ r. ⌜ Answered Entry.Ordinary Edition.One (now (image .entry)) (now (sizes .entry)) (now (sizes .exit)) (now (findings .entry)) (now (findings .exit)) r ⌝ }
 {
-    check_edition(image, Edition::One, sizes, findings)
+    check_by(image, Edition::One, Entry::Ordinary, sizes, findings)
 }
 
 // Checks an image of edition two.
 pub fn check_two(image: &[u8], sizes: &mut [u64], findings: &mut [u32]) -> Verdict
-    ensures { λ r. ⌜ Answered Edition.Two (now (image .entry)) (now (sizes .entry)) (now (sizes .exit)) (now (findings .entry)) (now (findings .exit)) r ⌝ }
+    ensures { λ r. ⌜ Answered Entry.Ordinary Edition.Two (now (image .entry)) (now (sizes .entry)) (now (sizes .exit)) (now (findings .entry)) (now (findings .exit)) r ⌝ }
 {
-    check_edition(image, Edition::Two, sizes, findings)
+    check_by(image, Edition::Two, Entry::Ordinary, sizes, findings)
+}
+
+// Checks an image of edition one for the head board, where every field starts on a whole byte.
+pub fn check_aligned(image: &[u8], sizes: &mut [u64], findings: &mut [u32]) -> Verdict
+    ensures { λ r. ⌜ Answered Entry.HeadBoard Edition.One (now (image .entry)) (now (sizes .entry)) (now (sizes .exit)) (now (findings .entry)) (now (findings .exit)) r ⌝ }
+{
+    check_by(image, Edition::One, Entry::HeadBoard, sizes, findings)
+}
+
+// Checks an image of edition two for the head board.
+pub fn check_aligned_two(image: &[u8], sizes: &mut [u64], findings: &mut [u32]) -> Verdict
+    ensures { λ r. ⌜ Answered Entry.HeadBoard Edition.Two (now (image .entry)) (now (sizes .entry)) (now (sizes .exit)) (now (findings .entry)) (now (findings .exit)) r ⌝ }
+{
+    check_by(image, Edition::Two, Entry::HeadBoard, sizes, findings)
 }

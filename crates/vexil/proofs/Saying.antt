@@ -9,12 +9,14 @@ use Rattle.slot.specs.declared.Edition.the-variants.{One}
 use Rattle.reader.specs.Promise.{ReadsAs}
 use Rattle.reader.specs.declared.Reading.{Reading}
 use Rattle.turns.specs.Sizing.{Answered}
+use Rattle.turns.specs.declared.Entry.{Entry}
+use Rattle.turns.specs.declared.Entry.the-variants.{Ordinary}
 use Rattle.turns.specs.declared.Sizing.{Sizing}
 use Rattle.typeck.specs.Check as check
 use Rattle.typeck.specs.declared.Verdict.{Verdict}
 use Rattle.vexil.specs.Answer.{numberOf, valueOf, sizingNumber, sizingValue, ReadTold, SizesTold, Told}
 
-pub sizes-said : (s before after : List ℕ) (r x : Sizing) (number value : ℕ) → Answered One s before after r → r ≡ x
+pub sizes-said : (s before after : List ℕ) (r x : Sizing) (number value : ℕ) → Answered Ordinary One s before after r → r ≡ x
     → (number ≡ sizingNumber x) × (value ≡ sizingValue x) → SizesTold s before after number value
 sizes-said s before after r x number value d e w =
     let q = sym e ∙ d .answer in
@@ -26,9 +28,9 @@ sizes-said s before after r x number value d e w =
       names = d .names;
     }
 
-pub check-said : (ed : Edition) (s sizes a findings b : List ℕ) (r : Verdict) (number value : ℕ) → check.Answered ed s sizes a findings b r
-    → (number ≡ check.numberOf r) × (value ≡ check.valueOf r) → Told ed s sizes a findings b number value
-check-said ed s sizes a findings b r number value d w =
+pub check-said : (E : Entry) (ed : Edition) (s sizes a findings b : List ℕ) (r : Verdict) (number value : ℕ) → check.Answered E ed s sizes a findings b r
+    → (number ≡ check.numberOf r) × (value ≡ check.valueOf r) → Told E ed s sizes a findings b number value
+check-said E ed s sizes a findings b r number value d w =
     record {
       numberIs = w .0 ∙ ap check.numberOf (d .answer);
       valueIs = w .1 ∙ ap check.valueOf (d .answer);

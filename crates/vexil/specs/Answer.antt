@@ -8,9 +8,12 @@ use Rattle.slot.specs.declared.Edition.{Edition}
 use Rattle.slot.specs.declared.Edition.the-variants.{One}
 use Rattle.reader.specs.Reading.{readingOf, startsTable, schemaOf}
 use Rattle.reader.specs.declared.Reading.{Reading}
+use Rattle.sizes.specs.declared.Layout.the-variants.{Packed}
 use Rattle.sizes.specs.Names.{NamesObey}
 use Rattle.sizes.specs.Demand.{Demand3}
-use Rattle.turns.specs.Sizing.{sizingOf, sizesOf, WhenRead}
+use Rattle.turns.specs.Sizing.{layoutOf, sizingOf, sizesOf, WhenRead}
+use Rattle.turns.specs.declared.Entry.{Entry}
+use Rattle.turns.specs.declared.Entry.the-variants.{Ordinary}
 use Rattle.turns.specs.declared.Sizing.{Sizing}
 use Rattle.typeck.specs.Check.{verdictOf, sizeTable, findingTable}
 use Rattle.typeck.specs.Check as check
@@ -46,18 +49,18 @@ pub record ReadTold (ed : Edition) (s starts startsAfter : List ℕ) (number val
 
 -- what the sizes alone say in two numbers, of an image of edition one, and of their table; where the number is 0, demand 3 holds of it
 pub record SizesTold (s sizes sizesAfter : List ℕ) (number value : ℕ) : Type 0 where
-  pub numberIs : number ≡ sizingNumber (sizingOf One (length sizes) s)
-  pub valueIs : value ≡ sizingValue (sizingOf One (length sizes) s)
-  pub sizesAre : sizesAfter ≡ sizesOf One (length sizes) s
-  pub demand : sizingOf One (length sizes) s ≡ Sizing.Accepted → Demand3 (schemaOf One s) sizesAfter
-  pub names : WhenRead One s NamesObey
+  pub numberIs : number ≡ sizingNumber (sizingOf Ordinary One (length sizes) s)
+  pub valueIs : value ≡ sizingValue (sizingOf Ordinary One (length sizes) s)
+  pub sizesAre : sizesAfter ≡ sizesOf Ordinary One (length sizes) s
+  pub demand : sizingOf Ordinary One (length sizes) s ≡ Sizing.Accepted → Demand3 Packed (schemaOf One s) sizesAfter
+  pub names : WhenRead One s (NamesObey Packed)
 
--- what the whole check says in two numbers, and of both tables; where the number is 0, demand 3 holds of the size table
-pub record Told (ed : Edition) (s sizes sizesAfter findings findingsAfter : List ℕ) (number value : ℕ) : Type 0 where
-  pub numberIs : number ≡ check.numberOf (verdictOf ed (length sizes) (length findings) s)
-  pub valueIs : value ≡ check.valueOf (verdictOf ed (length sizes) (length findings) s)
-  pub sizesAre : sizesAfter ≡ sizeTable ed (length sizes) (length findings) s
-  pub findingsAre : findingsAfter ≡ findingTable ed (length sizes) (length findings) s
-  pub demand : (n : ℕ) → verdictOf ed (length sizes) (length findings) s ≡ Verdict.Accepted n → Demand3 (schemaOf ed s) sizesAfter
-  pub names : WhenRead ed s NamesObey
+-- what the whole check of an entry says in two numbers, and of both tables; where the number is 0, demand 3 holds of the size table
+pub record Told (E : Entry) (ed : Edition) (s sizes sizesAfter findings findingsAfter : List ℕ) (number value : ℕ) : Type 0 where
+  pub numberIs : number ≡ check.numberOf (verdictOf E ed (length sizes) (length findings) s)
+  pub valueIs : value ≡ check.valueOf (verdictOf E ed (length sizes) (length findings) s)
+  pub sizesAre : sizesAfter ≡ sizeTable E ed (length sizes) (length findings) s
+  pub findingsAre : findingsAfter ≡ findingTable E ed (length sizes) (length findings) s
+  pub demand : (n : ℕ) → verdictOf E ed (length sizes) (length findings) s ≡ Verdict.Accepted n → Demand3 (layoutOf E) (schemaOf ed s) sizesAfter
+  pub names : WhenRead ed s (NamesObey (layoutOf E))
   pub limits : WhenRead ed s LimitsEnough

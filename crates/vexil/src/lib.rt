@@ -2,6 +2,7 @@
 use reader::Read;
 use reader::Reading;
 use slot::Edition;
+use turns::Entry;
 use turns::Sizing;
 use typeck::Verdict;
 ghost use mathlib.Core.Path.{_≡_};
@@ -95,7 +96,7 @@ fn tell_verdict(verdict: Verdict) -> Answer
 // The whole check of an image of edition one: three numbers a slot, six a finding.
 #[no_mangle]
 pub extern "C" fn vexil_check(image: &[u8], sizes: &mut [u64], findings: &mut [u32]) -> Answer
-    ensures { λ r. ⌜ Told Edition.One (now (image .entry)) (now (sizes .entry)) (now (sizes .exit)) (now (findings .entry)) (now (findings .exit)) (r .number) (r .value) ⌝ }
+    ensures { λ r. ⌜ Told Entry.Ordinary Edition.One (now (image .entry)) (now (sizes .entry)) (now (sizes .exit)) (now (findings .entry)) (now (findings .exit)) (r .number) (r .value) ⌝ }
 {
     tell_verdict(typeck::check(image, sizes, findings))
 }
@@ -103,7 +104,31 @@ pub extern "C" fn vexil_check(image: &[u8], sizes: &mut [u64], findings: &mut [u
 // The whole check of an image of edition two: three numbers a slot, six a finding.
 #[no_mangle]
 pub extern "C" fn vexil_check_two(image: &[u8], sizes: &mut [u64], findings: &mut [u32]) -> Answer
-    ensures { λ r. ⌜ Told Edition.Two (now (image .entry)) (now (sizes .entry)) (now (sizes .exit)) (now (findings .entry)) (now (findings .exit)) (r .number) (r .value) ⌝ }
+    ensures { λ r. ⌜ Told Entry.Ordinary Edition.Two (now (image .entry)) (now (sizes .entry)) (now (sizes .exit)) (now (findings .entry)) (now (findings .exit)) (r .number) (r .value) ⌝ }
 {
     tell_verdict(typeck::check_two(image, sizes, findings))
+}
+
+// The whole check of an image of edition one for the head board, where every field starts on a whole byte.
+#[no_mangle]
+pub extern "C" fn vexil_check_aligned(
+    image: &[u8],
+    sizes: &mut [u64],
+    findings: &mut [u32],
+) -> Answer
+    ensures { λ r. ⌜ Told Entry.HeadBoard Edition.One (now (image .entry)) (now (sizes .entry)) (now (sizes .exit)) (now (findings .entry)) (now (findings .exit)) (r .number) (r .value) ⌝ }
+{
+    tell_verdict(typeck::check_aligned(image, sizes, findings))
+}
+
+// The whole check of an image of edition two for the head board.
+#[no_mangle]
+pub extern "C" fn vexil_check_aligned_two(
+    image: &[u8],
+    sizes: &mut [u64],
+    findings: &mut [u32],
+) -> Answer
+    ensures { λ r. ⌜ Told Entry.HeadBoard Edition.Two (now (image .entry)) (now (sizes .entry)) (now (sizes .exit)) (now (findings .entry)) (now (findings .exit)) (r .number) (r .value) ⌝ }
+{
+    tell_verdict(typeck::check_aligned_two(image, sizes, findings))
 }

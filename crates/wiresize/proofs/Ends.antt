@@ -20,6 +20,7 @@ use Rattle.reader.specs.Promise.{Promise}
 use Rattle.reader.specs.declared.Reading.{Reading}
 use Rattle.reader.proofs.Telling.{exactly}
 use Rattle.sizes.specs.Sizes.{countOf}
+use Rattle.sizes.specs.declared.Layout.{Layout}
 use Rattle.sizes.specs.Names.{contentIn, contentOf, NamesObey}
 use Rattle.sizes.specs.Lengths.{leafParts, wrapParts, typeParts, terminalParts, terminalsOf, Reaches, atOnce, byWayOf, NewtypesEnd}
 use Rattle.sizes.specs.Fuel as fuel
@@ -93,5 +94,5 @@ pub newtypes-end : (s starts : List ℕ) (f : Frame) → Promise s starts f → 
 newtypes-end s starts f p = by-parts (schemaOf (f .edition) s) (p .newtypes)
 
 -- names go by their rule in every image that is read
-pub names-obey : (ed : Edition) (s : List ℕ) (f : Frame) → readingOf ed s ≡ Reading.Accepted f → NamesObey (schemaOf ed s)
-names-obey ed s f e = fuel.names-obey (schemaOf ed s) (by-parts (schemaOf ed s) (exactly ed s refl .accepted .0 (f, e) .before .newtypes))
+pub names-obey : (L : Layout) (ed : Edition) (s : List ℕ) (f : Frame) → readingOf ed s ≡ Reading.Accepted f → NamesObey L (schemaOf ed s)
+names-obey L ed s f e = fuel.names-obey L (schemaOf ed s) (by-parts (schemaOf ed s) (exactly ed s refl .accepted .0 (f, e) .before .newtypes))

@@ -11,12 +11,14 @@ use Rattle.slot.specs.declared.Edition.{Edition}
 use Rattle.image.specs.Schema.{Schema}
 use Rattle.image.specs.declared.Frame.{Frame}
 use Rattle.reader.specs.Reading.{schemaOf}
+use Rattle.sizes.specs.declared.Layout.{Layout}
+use Rattle.sizes.specs.declared.Layout.the-variants.{Packed, Aligned}
 use Rattle.sizes.specs.declared.Size.{Size}
 use Rattle.sizes.specs.declared.Size.the-variants.{Fixed}
 use Rattle.sizes.specs.declared.Operation.{Operation}
 use Rattle.sizes.specs.declared.Worked.{Worked}
 use Rattle.sizes.specs.declared.Worked.the-variants.{Sized, Over}
-use Rattle.sizes.specs.Sizes.{then, limitedSum, Resolver, fieldSize, added, addFields, fieldsSize}
+use Rattle.sizes.specs.Sizes.{then, limitedSum, laid, Resolver, fieldAlone, fieldSize, added, addFields, fieldsSize}
 use Rattle.sizes.specs.Steps.{then-made}
 use Rattle.sizes.specs.Names.{State}
 use Rattle.total.specs.Totals.{sizeOf, totalOf, sumOf, totalAfter, stepOf}
@@ -43,24 +45,37 @@ first-of g s (suc left) here h xs e q = let d : suc left - 1 ≡ left = omega ar
 pub same-thing : {A : Type 0} {m : Outcome A} {x y : A} {d e : ℕ} → m ≡ done x d → m ≡ done y e → (x ≡ y) × (d ≡ e)
 same-thing p q = given (sym p ∙ q)
 
+-- a field as its layout adds it, by the code's steps
+module _ (L : Layout) (alone : Worked) {field : Worked} where
+  pub laid-aligned : L ≡ Aligned → field ≡ then alone (laid Aligned) → field ≡ then alone (laid L)
+  laid-aligned e q = q ∙ ap (λ (M : Layout). then alone (laid M)) (sym e)
+
+  pub laid-packed : L ≡ Packed → field ≡ alone → field ≡ then alone (laid L)
+  unfolding then
+  laid-packed e q = q ∙ go alone ∙ ap (λ (M : Layout). then alone (laid M)) (sym e)
+    where
+      go : (w : Worked) → w ≡ then w (laid Packed)
+      go (Sized z) = refl
+      go (Over o) = refl
+
 -- what a running total adds up to
-total-on : (R : Resolver) (total : Size) (x : Field) (xs : List Field) {w r : Worked} → w ≡ fieldSize R x → r ≡ then w (λ z. limitedSum (added total z))
-    → addFields R total (x ∷ xs) ≡ then r (λ sum. addFields R sum xs)
+total-on : (L : Layout) (R : Resolver) (total : Size) (x : Field) (xs : List Field) {w r : Worked} → w ≡ fieldSize L R x → r ≡ then w (λ z. limitedSum (added total z))
+    → addFields L R total (x ∷ xs) ≡ then r (λ sum. addFields L R sum xs)
 unfolding addFields then
-total-on R total x xs {w} e f =
-    ap (λ (v : Worked). then v (λ z. then (limitedSum (added total z)) (λ sum. addFields R sum xs))) (sym e)
+total-on L R total x xs {w} e f =
+    ap (λ (v : Worked). then v (λ z. then (limitedSum (added total z)) (λ sum. addFields L R sum xs))) (sym e)
     ∙ go w
-    ∙ ap (λ (v : Worked). then v (λ sum. addFields R sum xs)) (sym f)
+    ∙ ap (λ (v : Worked). then v (λ sum. addFields L R sum xs)) (sym f)
   where
-    go : (v : Worked) → then v (λ z. then (limitedSum (added total z)) (λ sum. addFields R sum xs)) ≡ then (then v (λ z. limitedSum (added total z))) (λ sum. addFields R sum xs)
+    go : (v : Worked) → then v (λ z. then (limitedSum (added total z)) (λ sum. addFields L R sum xs)) ≡ then (then v (λ z. limitedSum (added total z))) (λ sum. addFields L R sum xs)
     go (Sized z) = refl
     go (Over o) = refl
 
-total-done : (R : Resolver) (total : Size) {xs : List Field} → [] ≡ xs → addFields R total xs ≡ Sized total
+total-done : (L : Layout) (R : Resolver) (total : Size) {xs : List Field} → [] ≡ xs → addFields L R total xs ≡ Sized total
 unfolding addFields
-total-done R total e = rw (← e)
+total-done L R total e = rw (← e)
 
-module _ (s : List ℕ) (f : Frame) (rows : List ℕ) (w : List Bool) (fieldCount first : ℕ) where
+module _ (L : Layout) (s : List ℕ) (f : Frame) (rows : List ℕ) (w : List Bool) (fieldCount first : ℕ) where
   abbrev pub S : Schema
   S = schemaOf (f .edition) s
 
@@ -76,33 +91,36 @@ module _ (s : List ℕ) (f : Frame) (rows : List ℕ) (w : List Bool) (fieldCoun
     pub reads : read (many left (fieldAt (f .edition) (f .names))) s here ≡ done fields end
     pub ends : (fs : List Field) (e : ℕ) → Whole fs e → end ≡ e
     pub totals : (fs : List Field) (e : ℕ) → Whole fs e → (st : State) → RowsHold S st rows
-        → addFields (resolver S st w) sum fields ≡ fieldsSize (resolver S st w) fs
+        → addFields L (resolver L S st w) sum fields ≡ fieldsSize L (resolver L S st w) fs
 
   pub fields-start : (fs : List Field) (e : ℕ) → Whole fs e → {total : List ℕ} → total ≡ totalOf (Fixed 0) → FieldsLeft fieldCount first total
   fields-start fs e q i =
-      record { sum = Fixed 0; stands = i; fields = fs; end = e; reads = q; ends = λ xs d p. same-thing q p .1; totals = λ xs d p st H. ap (fieldsSize (resolver S st w)) (same-thing q p .0) }
+      record { sum = Fixed 0; stands = i; fields = fs; end = e; reads = q; ends = λ xs d p. same-thing q p .1; totals = λ xs d p st H. ap (fieldsSize L (resolver L S st w)) (same-thing q p .0) }
 
   module _ {left here : ℕ} {total : List ℕ} (l : FieldsLeft left here total) where
     pub next-field : 0 < left → Front (fieldAt (f .edition) (f .names)) s (left - 1) here (l .fields) (l .end)
     next-field h = first-of (fieldAt (f .edition) (f .names)) s left here h (l .fields) (l .end) (l .reads)
 
-    module _ (h : 0 < left) (r : Walked) (walks : Walks (fieldAt (f .edition) (f .names)) fieldSize s f rows w here r) where
-      worked-as : (st : State) → RowsHold S st rows → r .worked ≡ fieldSize (resolver S st w) (next-field h .first)
-      worked-as st H = walks .works .worked _ _ (next-field h .here) st H
+    -- a field by itself, and the same as it is added
+    module _ (h : 0 < left) (r : Walked) (walks : Walks L (fieldAt (f .edition) (f .names)) fieldAlone s f rows w here r) {field : Worked}
+        (lays : field ≡ then (r .worked) (laid L)) where
+      worked-as : (st : State) → RowsHold S st rows → field ≡ fieldSize L (resolver L S st w) (next-field h .first)
+      unfolding fieldSize
+      worked-as st H = lays ∙ ap (λ (x : Worked). then x (laid L)) (walks .works .worked _ _ (next-field h .here) st H)
 
-      module _ {total′ : List ℕ} {step : Step} (adds : (total′ ≡ totalAfter total (sumOf total (r .worked))) × (step ≡ stepOf (sumOf total (r .worked)))) where
-        onward : {w′ : Worked} → then (r .worked) (λ z. limitedSum (added (l .sum) z)) ≡ w′ → (st : State) → RowsHold S st rows
-            → addFields (resolver S st w) (l .sum) (l .fields) ≡ then w′ (λ y. addFields (resolver S st w) y (next-field h .others))
+      module _ {total′ : List ℕ} {step : Step} (adds : (total′ ≡ totalAfter total (sumOf total field)) × (step ≡ stepOf (sumOf total field))) where
+        onward : {w′ : Worked} → then field (λ z. limitedSum (added (l .sum) z)) ≡ w′ → (st : State) → RowsHold S st rows
+            → addFields L (resolver L S st w) (l .sum) (l .fields) ≡ then w′ (λ y. addFields L (resolver L S st w) y (next-field h .others))
         onward e st H =
             let g = next-field h in
-            ap (addFields (resolver S st w) (l .sum)) (g .whole) ∙ total-on _ (l .sum) (g .first) (g .others) (worked-as st H) (sym e)
+            ap (addFields L (resolver L S st w) (l .sum)) (g .whole) ∙ total-on L _ (l .sum) (g .first) (g .others) (worked-as st H) (sym e)
 
         pub field-turn : step ≡ Step.On → FieldsLeft (left - 1) (r .next) total′
         unfolding then
         field-turn o =
             let g = next-field h in
-            let a = stepped (l .sum) (l .stands) (r .worked) (adds .0) (adds .1) o in
-            let m = then-made (r .worked) _ _ (a .1) in
+            let a = stepped (l .sum) (l .stands) field (adds .0) (adds .1) o in
+            let m = then-made (r .worked) (laid L) _ (sym lays ∙ then-made field _ _ (a .1) .given) in
             let n = walks .next _ _ (g .here) (m .part) (m .given) in
             record {
               sum = a .0;
@@ -115,18 +133,18 @@ module _ (s : List ℕ) (f : Frame) (rows : List ℕ) (w : List Bool) (fieldCoun
             }
 
         pub field-over : {o : Operation} → step ≡ Step.Over o → (fs : List Field) (e : ℕ) → Whole fs e → (st : State) → RowsHold S st rows
-            → Over o ≡ fieldsSize (resolver S st w) fs
+            → Over o ≡ fieldsSize L (resolver L S st w) fs
         unfolding then
-        field-over o fs e q st H = sym (onward (stopped (l .sum) (l .stands) (r .worked) (adds .0) (adds .1) o) st H) ∙ l .totals fs e q st H
+        field-over o fs e q st H = sym (onward (stopped (l .sum) (l .stands) field (adds .0) (adds .1) o) st H) ∙ l .totals fs e q st H
 
     module _ (h : left ≤ 0) (fs : List Field) (e : ℕ) (q : Whole fs e) where
       pub fields-end : here ≡ e
       fields-end = none-left (fieldAt (f .edition) (f .names)) s left here h (l .fields) (l .end) (l .reads) .1 ∙ l .ends fs e q
 
-      pub fields-sum : {z : Size} → z ≡ sizeOf total → (st : State) → RowsHold S st rows → Sized z ≡ fieldsSize (resolver S st w) fs
+      pub fields-sum : {z : Size} → z ≡ sizeOf total → (st : State) → RowsHold S st rows → Sized z ≡ fieldsSize L (resolver L S st w) fs
       fields-sum c st H =
           ap Sized (c ∙ ap sizeOf (l .stands) ∙ size-back (l .sum))
-          ∙ sym (total-done (resolver S st w) (l .sum) (none-left (fieldAt (f .edition) (f .names)) s left here h (l .fields) (l .end) (l .reads) .0)) ∙ l .totals fs e q st H
+          ∙ sym (total-done L (resolver L S st w) (l .sum) (none-left (fieldAt (f .edition) (f .names)) s left here h (l .fields) (l .end) (l .reads) .0)) ∙ l .totals fs e q st H
 
 -- the fields behind their count
 pub fields-behind : (s : List ℕ) (ed : Edition) (names at : ℕ) {count first : ℕ} → below 65537 s at ≡ done count first → {fs : List Field} {e : ℕ}

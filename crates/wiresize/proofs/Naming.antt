@@ -23,6 +23,7 @@ use Rattle.view.specs.Part.{partAt}
 use Rattle.view.specs.declared.Part.{Part}
 use Rattle.view.proofs.Fetching.{body-at}
 use Rattle.reader.proofs.Fetching.{part-behind}
+use Rattle.sizes.specs.declared.Layout.{Layout}
 use Rattle.sizes.specs.declared.Size.{Size}
 use Rattle.sizes.specs.declared.Size.the-variants.{Fixed, Bounded, Open}
 use Rattle.sizes.specs.declared.Worked.{Worked}
@@ -138,42 +139,42 @@ row-of S st rows H i h =
     rw (p, q, r)
 
 -- what a known row says is the slot's size, whatever its parts come to
-row-known : (S : Schema) (st : State) (i : ℕ) (beside inside : Resolver) (y : Worked) (x : Slot) → ((g : Flags) → x ≡ flags g → g .storedBytes ≤ 255)
-    → rowIn (slotRow S st i x) ≡ Row.Known y → contentSize (st i) beside inside (contentIn S i x) ≡ y
+row-known : (L : Layout) (S : Schema) (st : State) (i : ℕ) (beside inside : Resolver) (y : Worked) (x : Slot) → ((g : Flags) → x ≡ flags g → g .storedBytes ≤ 255)
+    → rowIn (slotRow S st i x) ≡ Row.Known y → contentSize L (st i) beside inside (contentIn S i x) ≡ y
 unfolding rowBy slotRow contentSize contentIn
-row-known S st i b n y empty few q = none-known q
-row-known S st i b n y (message m) few q = stored-known (st i) y _ q
-row-known S st i b n y (enum e) few q = known-inj q
-row-known S st i b n y (flags g) few q = sym (eight-times _ (flags-few S i g (few g refl))) ∙ known-inj q
-row-known S st i b n y (union u) few q = stored-known (st i) y _ q
-row-known S st i b n y (newtype t) few q = none-known q
-row-known S st i b n y config few q = none-known q
-row-known S st i b n y (alias a) few q = none-known q
-row-known S st i b n y (trait t) few q = none-known q
-row-known S st i b n y (impl m) few q = none-known q
+row-known L S st i b n y empty few q = none-known q
+row-known L S st i b n y (message m) few q = stored-known (st i) y _ q
+row-known L S st i b n y (enum e) few q = known-inj q
+row-known L S st i b n y (flags g) few q = sym (eight-times _ (flags-few S i g (few g refl))) ∙ known-inj q
+row-known L S st i b n y (union u) few q = stored-known (st i) y _ q
+row-known L S st i b n y (newtype t) few q = none-known q
+row-known L S st i b n y config few q = none-known q
+row-known L S st i b n y (alias a) few q = none-known q
+row-known L S st i b n y (trait t) few q = none-known q
+row-known L S st i b n y (impl m) few q = none-known q
 
 -- a slot without a row that is no message, union or newtype
-row-other : (S : Schema) (st : State) (i : ℕ) (beside inside : Resolver) (x : Slot) → (slotKind x ≡ 1 → ⊥) → (slotKind x ≡ 4 → ⊥) → (slotKind x ≡ 5 → ⊥)
-    → rowIn (slotRow S st i x) ≡ Row.None → contentSize (st i) beside inside (contentIn S i x) ≡ Sized (Open 0)
+row-other : (L : Layout) (S : Schema) (st : State) (i : ℕ) (beside inside : Resolver) (x : Slot) → (slotKind x ≡ 1 → ⊥) → (slotKind x ≡ 4 → ⊥) → (slotKind x ≡ 5 → ⊥)
+    → rowIn (slotRow S st i x) ≡ Row.None → contentSize L (st i) beside inside (contentIn S i x) ≡ Sized (Open 0)
 unfolding rowBy slotRow contentSize contentIn
-row-other S st i b n empty u v t q = refl
-row-other S st i b n (message m) u v t q = absurd (u refl)
-row-other S st i b n (enum e) u v t q = none-known (sym q)
-row-other S st i b n (flags g) u v t q = none-known (sym q)
-row-other S st i b n (union w) u v t q = absurd (v refl)
-row-other S st i b n (newtype w) u v t q = absurd (t refl)
-row-other S st i b n config u v t q = refl
-row-other S st i b n (alias a) u v t q = refl
-row-other S st i b n (trait r) u v t q = refl
-row-other S st i b n (impl m) u v t q = refl
+row-other L S st i b n empty u v t q = refl
+row-other L S st i b n (message m) u v t q = absurd (u refl)
+row-other L S st i b n (enum e) u v t q = none-known (sym q)
+row-other L S st i b n (flags g) u v t q = none-known (sym q)
+row-other L S st i b n (union w) u v t q = absurd (v refl)
+row-other L S st i b n (newtype w) u v t q = absurd (t refl)
+row-other L S st i b n config u v t q = refl
+row-other L S st i b n (alias a) u v t q = refl
+row-other L S st i b n (trait r) u v t q = refl
+row-other L S st i b n (impl m) u v t q = refl
 
 -- ## A name
 
-module _ (s starts : List ℕ) (f : Frame) (rows : List ℕ) (w : List Bool) (ready : Ready s starts f rows w) (st : State) (H : RowsHold (schemaOf (f .edition) s) st rows) (i : ℕ) where
-  obeys : resolver (schemaOf (f .edition) s) st w i ≡ nameRule (schemaOf (f .edition) s) st (nameSize (schemaOf (f .edition) s) st) (marked w) i
-  obeys = name-obeys (schemaOf (f .edition) s) st (newtypes-end s starts f (ready .promise)) (marked w) i
+module _ (L : Layout) (s starts : List ℕ) (f : Frame) (rows : List ℕ) (w : List Bool) (ready : Ready s starts f rows w) (st : State) (H : RowsHold (schemaOf (f .edition) s) st rows) (i : ℕ) where
+  obeys : resolver L (schemaOf (f .edition) s) st w i ≡ nameRule L (schemaOf (f .edition) s) st (nameSize L (schemaOf (f .edition) s) st) (marked w) i
+  obeys = name-obeys L (schemaOf (f .edition) s) st (newtypes-end s starts f (ready .promise)) (marked w) i
 
-  pub name-missing : f .slots ≤ i → Sized (Open 0) ≡ resolver (schemaOf (f .edition) s) st w i
+  pub name-missing : f .slots ≤ i → Sized (Open 0) ≡ resolver L (schemaOf (f .edition) s) st w i
   unfolding nameRule contentOf contentIn contentSize slotOf
   name-missing h =
       let c = ready .promise .count in
@@ -184,7 +185,7 @@ module _ (s starts : List ℕ) (f : Frame) (rows : List ℕ) (w : List Bool) (re
       go true = refl
       go false = refl
 
-  pub name-marked : getD w i false ≡ true → Sized (Open 0) ≡ resolver (schemaOf (f .edition) s) st w i
+  pub name-marked : getD w i false ≡ true → Sized (Open 0) ≡ resolver L (schemaOf (f .edition) s) st w i
   unfolding nameRule
   name-marked e = sym (obeys ∙ rw e)
 
@@ -192,37 +193,37 @@ module _ (s starts : List ℕ) (f : Frame) (rows : List ℕ) (w : List Bool) (re
     inside : inserted i (marked w) ≡ marked (set w i true)
     inside = let c = ready .marks in let d = ready .promise .few in fun-ext (λ j. sym (inserted-is w i j (omega arith)))
 
-    opened : (x : Slot) → slotOf (schemaOf (f .edition) s) i ≡ x → resolver (schemaOf (f .edition) s) st w i ≡ contentSize (st i) (resolver (schemaOf (f .edition) s) st w) (resolver (schemaOf (f .edition) s) st (set w i true)) (contentIn (schemaOf (f .edition) s) i x)
+    opened : (x : Slot) → slotOf (schemaOf (f .edition) s) i ≡ x → resolver L (schemaOf (f .edition) s) st w i ≡ contentSize L (st i) (resolver L (schemaOf (f .edition) s) st w) (resolver L (schemaOf (f .edition) s) st (set w i true)) (contentIn (schemaOf (f .edition) s) i x)
     unfolding nameRule contentOf
-    opened x e = obeys ∙ rw free (ap₂ (λ (u : Working) (y : Slot). contentSize (st i) (resolver (schemaOf (f .edition) s) st w) (nameSize (schemaOf (f .edition) s) st u) (contentIn (schemaOf (f .edition) s) i y)) inside e)
+    opened x e = obeys ∙ rw free (ap₂ (λ (u : Working) (y : Slot). contentSize L (st i) (resolver L (schemaOf (f .edition) s) st w) (nameSize L (schemaOf (f .edition) s) st u) (contentIn (schemaOf (f .edition) s) i y)) inside e)
 
     row-is : (x : Slot) → slotOf (schemaOf (f .edition) s) i ≡ x → rowAt rows i ≡ rowIn (slotRow (schemaOf (f .edition) s) st i x)
     row-is x e = let c = ready .promise .count in row-of (schemaOf (f .edition) s) st rows H i (omega arith) ∙ ap (λ (y : Slot). rowIn (slotRow (schemaOf (f .edition) s) st i y)) e
 
-    pub name-known : {y : Worked} → rowAt rows i ≡ Row.Known y → y ≡ resolver (schemaOf (f .edition) s) st w i
-    name-known q = sym (opened _ refl ∙ row-known (schemaOf (f .edition) s) st i _ _ _ _ (stored-few s starts f (ready .promise) i h) (sym (row-is _ refl) ∙ q))
+    pub name-known : {y : Worked} → rowAt rows i ≡ Row.Known y → y ≡ resolver L (schemaOf (f .edition) s) st w i
+    name-known q = sym (opened _ refl ∙ row-known L (schemaOf (f .edition) s) st i _ _ _ _ (stored-few s starts f (ready .promise) i h) (sym (row-is _ refl) ∙ q))
 
     module _ (unknown : rowAt rows i ≡ Row.None) {r : Worked} where
-      pub name-message : (m : Message) → slotOf (schemaOf (f .edition) s) i ≡ message m → r ≡ fieldsSize (resolver (schemaOf (f .edition) s) st (set w i true)) (m .fields) → r ≡ resolver (schemaOf (f .edition) s) st w i
+      pub name-message : (m : Message) → slotOf (schemaOf (f .edition) s) i ≡ message m → r ≡ fieldsSize L (resolver L (schemaOf (f .edition) s) st (set w i true)) (m .fields) → r ≡ resolver L (schemaOf (f .edition) s) st w i
       unfolding contentIn contentSize slotRow
       name-message m e q =
           let z = not-stored (st i) (sym (row-is _ e) ∙ unknown) in
-          q ∙ sym (opened _ e ∙ ap (λ (o : Option Size). orElse o (fieldsSize (resolver (schemaOf (f .edition) s) st (set w i true)) (m .fields))) z)
+          q ∙ sym (opened _ e ∙ ap (λ (o : Option Size). orElse o (fieldsSize L (resolver L (schemaOf (f .edition) s) st (set w i true)) (m .fields))) z)
 
-      pub name-union : (u : Union) → slotOf (schemaOf (f .edition) s) i ≡ union u → r ≡ unionSize (resolver (schemaOf (f .edition) s) st (set w i true)) (u .variants) → r ≡ resolver (schemaOf (f .edition) s) st w i
+      pub name-union : (u : Union) → slotOf (schemaOf (f .edition) s) i ≡ union u → r ≡ unionSize L (resolver L (schemaOf (f .edition) s) st (set w i true)) (u .variants) → r ≡ resolver L (schemaOf (f .edition) s) st w i
       unfolding contentIn contentSize slotRow
       name-union u e q =
           let z = not-stored (st i) (sym (row-is _ e) ∙ unknown) in
-          q ∙ sym (opened _ e ∙ ap (λ (o : Option Size). orElse o (unionSize (resolver (schemaOf (f .edition) s) st (set w i true)) (u .variants))) z)
+          q ∙ sym (opened _ e ∙ ap (λ (o : Option Size). orElse o (unionSize L (resolver L (schemaOf (f .edition) s) st (set w i true)) (u .variants))) z)
 
-      pub name-newtype : (n : Newtype) → slotOf (schemaOf (f .edition) s) i ≡ newtype n → r ≡ typeSize (resolver (schemaOf (f .edition) s) st w) (n .terminal) → r ≡ resolver (schemaOf (f .edition) s) st w i
+      pub name-newtype : (n : Newtype) → slotOf (schemaOf (f .edition) s) i ≡ newtype n → r ≡ typeSize (resolver L (schemaOf (f .edition) s) st w) (n .terminal) → r ≡ resolver L (schemaOf (f .edition) s) st w i
       unfolding contentIn contentSize
       name-newtype n e q = q ∙ sym (opened _ e)
 
     pub name-other : rowAt rows i ≡ Row.None → (k : ℕ) → slotKind (slotOf (schemaOf (f .edition) s) i) ≡ k → (k ≡ 1 → ⊥) → (k ≡ 4 → ⊥) → (k ≡ 5 → ⊥)
-        → Sized (Open 0) ≡ resolver (schemaOf (f .edition) s) st w i
+        → Sized (Open 0) ≡ resolver L (schemaOf (f .edition) s) st w i
     name-other unknown k e u v t =
-        sym (opened _ refl ∙ row-other (schemaOf (f .edition) s) st i _ _ _ (λ z. u (sym e ∙ z)) (λ z. v (sym e ∙ z)) (λ z. t (sym e ∙ z)) (sym (row-is _ refl) ∙ unknown))
+        sym (opened _ refl ∙ row-other L (schemaOf (f .edition) s) st i _ _ _ (λ z. u (sym e ∙ z)) (λ z. v (sym e ∙ z)) (λ z. t (sym e ∙ z)) (sym (row-is _ refl) ∙ unknown))
 
 pub newtype-content : (S : Schema) (i : ℕ) (n : Newtype) → slotOf S i ≡ newtype n → contentOf S i ≡ terminal (n .terminal)
 unfolding contentOf contentIn

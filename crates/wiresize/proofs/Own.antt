@@ -8,6 +8,7 @@ use lib.Dec.{eqb}
 use lib.ListN.{getD, set, replicate}
 use Rattle.slot.specs.Slot.{Slot, empty, message, enum, flags, union, newtype, config, alias, trait, impl, Message, Union, slotKind}
 use Rattle.image.specs.Schema.{Schema, slotOf}
+use Rattle.sizes.specs.declared.Layout.{Layout}
 use Rattle.sizes.specs.declared.Worked.{Worked}
 use Rattle.sizes.specs.declared.Worked.the-variants.{Sized, Over}
 use Rattle.sizes.specs.Sizes.{fieldsSize, unionSize}
@@ -36,25 +37,25 @@ turn-says (Over o) = refl
 pub turned-as : {r : Turned} {w : Worked} {o : Option Worked} → r ≡ turnedAs w → some w ≡ o → turnOf r ≡ o
 turned-as {w = w} e q = ap turnOf e ∙ turn-says w ∙ q
 
-module _ (S : Schema) (st : State) (i : ℕ) where
+module _ (L : Layout) (S : Schema) (st : State) (i : ℕ) where
   module _ (h : i < 512) {w : Worked} where
-    pub own-message : (m : Message) → slotOf S i ≡ message m → w ≡ fieldsSize (resolver S st (ownMark i)) (m .fields) → some w ≡ ownSize S st i
+    pub own-message : (m : Message) → slotOf S i ≡ message m → w ≡ fieldsSize L (resolver L S st (ownMark i)) (m .fields) → some w ≡ ownSize L S st i
     unfolding ownSize contentOf contentIn bodySize
     own-message m e q =
-        ap some (q ∙ ap (λ (u : Working). fieldsSize (nameSize S st u) (m .fields)) (own-marked i h))
-        ∙ sym (ap (λ (x : Slot). bodySize (nameSize S st (inserted i nothing)) (contentIn S i x)) e)
+        ap some (q ∙ ap (λ (u : Working). fieldsSize L (nameSize L S st u) (m .fields)) (own-marked i h))
+        ∙ sym (ap (λ (x : Slot). bodySize L (nameSize L S st (inserted i nothing)) (contentIn S i x)) e)
 
-    pub own-union : (u : Union) → slotOf S i ≡ union u → w ≡ unionSize (resolver S st (ownMark i)) (u .variants) → some w ≡ ownSize S st i
+    pub own-union : (u : Union) → slotOf S i ≡ union u → w ≡ unionSize L (resolver L S st (ownMark i)) (u .variants) → some w ≡ ownSize L S st i
     unfolding ownSize contentOf contentIn bodySize
     own-union v e q =
-        ap some (q ∙ ap (λ (u : Working). unionSize (nameSize S st u) (v .variants)) (own-marked i h))
-        ∙ sym (ap (λ (x : Slot). bodySize (nameSize S st (inserted i nothing)) (contentIn S i x)) e)
+        ap some (q ∙ ap (λ (u : Working). unionSize L (nameSize L S st u) (v .variants)) (own-marked i h))
+        ∙ sym (ap (λ (x : Slot). bodySize L (nameSize L S st (inserted i nothing)) (contentIn S i x)) e)
 
-  pub own-other : {k : ℕ} → slotKind (slotOf S i) ≡ k → (k ≡ 1 → ⊥) → (k ≡ 4 → ⊥) → none ≡ ownSize S st i
+  pub own-other : {k : ℕ} → slotKind (slotOf S i) ≡ k → (k ≡ 1 → ⊥) → (k ≡ 4 → ⊥) → none ≡ ownSize L S st i
   unfolding ownSize contentOf contentIn bodySize
   own-other e a b = go (slotOf S i) (λ z. a (sym e ∙ z)) (λ z. b (sym e ∙ z))
     where
-      go : (x : Slot) → (slotKind x ≡ 1 → ⊥) → (slotKind x ≡ 4 → ⊥) → none ≡ bodySize (nameSize S st (inserted i nothing)) (contentIn S i x)
+      go : (x : Slot) → (slotKind x ≡ 1 → ⊥) → (slotKind x ≡ 4 → ⊥) → none ≡ bodySize L (nameSize L S st (inserted i nothing)) (contentIn S i x)
       go empty a b = refl
       go (message m) a b = absurd (a refl)
       go (enum m) a b = refl

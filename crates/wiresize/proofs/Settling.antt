@@ -13,7 +13,7 @@ use Rattle.tree.specs.Short.{shortLeaf}
 use Rattle.slot.specs.Short.{shortAt, shortEncoding, shortField}
 use Rattle.slot.specs.declared.Short.{Short}
 use Rattle.slot.proofs.FourBytes.{short-bytes, type-reads, short-reads, short-kind, short-number}
-use Rattle.sizes.specs.Sizes.{Resolver, leafSize, typeSize, encodedSize, fieldSize, varintEnd, zigZagEnd}
+use Rattle.sizes.specs.Sizes.{Resolver, leafSize, typeSize, encodedSize, fieldAlone, varintEnd, zigZagEnd}
 use Rattle.sizes.specs.declared.Size.{Size}
 use Rattle.sizes.specs.declared.Size.the-variants.{Bounded}
 use Rattle.sizes.specs.declared.Worked.the-variants.{Sized}
@@ -31,14 +31,14 @@ use Rattle.wiresize.proofs.Typing.{plain-is, varint-is, zigzag-is}
 -- by the encoding that governs
 module _ (f : Frame) (s : List ℕ) (at : ℕ) (r : Coded) (codes : Codes (f .names) s at r) (p : ℕ) where
   pub at-type : r ≡ Coded.Plain p → Settles f s at (Settled.At p)
-  unfolding Settles fieldSize
+  unfolding Settles
   at-type e x end q =
       let k = codes (f .edition) x end q in
       let g = plain-is _ (sym e ∙ k .1 .coded) in
       (k .0, at-place _ _ (k .1 .reads) (g .place), k .2, λ R. g .same R _)
 
   pub by-varint : r ≡ Coded.Varint p → (v w : Walked) → Passed (f .names) s p (λ t. Sized (Bounded 8 (varintEnd t))) v → PastLimit f s v w → Settles f s at (Settled.Is w)
-  unfolding Settles fieldSize
+  unfolding Settles
   by-varint e v w h past x end q =
       let k = codes (f .edition) x end q in
       let g = varint-is _ (sym e ∙ k .1 .coded) in
@@ -46,7 +46,7 @@ module _ (f : Frame) (s : List ℕ) (at : ℕ) (r : Coded) (codes : Codes (f .na
       (past .next _ _ (at-place _ _ (k .2) (a .1)), λ R. past .worked ∙ a .0 ∙ g .same R _)
 
   pub by-zigzag : r ≡ Coded.ZigZag p → (v w : Walked) → Passed (f .names) s p (λ t. Sized (Bounded 8 (zigZagEnd t))) v → PastLimit f s v w → Settles f s at (Settled.Is w)
-  unfolding Settles fieldSize
+  unfolding Settles
   by-zigzag e v w h past x end q =
       let k = codes (f .edition) x end q in
       let g = zigzag-is _ (sym e ∙ k .1 .coded) in
@@ -70,8 +70,8 @@ module _ (f : Frame) (s : List ℕ) (at e k v : ℕ) (h : shortAt (f .names) s a
       (ap own (sym l) ∙ g .0, a .2 ∙ ap (done (a .0)) (g .1) ∙ ap (λ (y : ℕ). done y end) l)
 
   by-size : (z : Size) (n : ℕ) → LimitTo f s (at + 4) n → ((R : Resolver) → Sized z ≡ encodedSize R (shortEncoding e) type) → Settles f s at (Settled.Is record { worked = Sized z; next = n })
-  unfolding Settles fieldSize
-  by-size z n m same x end q = let g = is-own x end q in (m _ _ (g .1), λ R. same R ∙ ap (fieldSize R) (g .0))
+  unfolding Settles
+  by-size z n m same x end q = let g = is-own x end q in (m _ _ (g .1), λ R. same R ∙ ap (fieldAlone R) (g .0))
 
   pub short-leaf : e ≡ 0 → (z : Size) → ((R : Resolver) → Sized z ≡ leafSize R (leafOf k v)) → (n : ℕ) → LimitTo f s (at + 4) n
       → Settles f s at (Settled.Is record { worked = Sized z; next = n })
@@ -93,7 +93,7 @@ module _ (f : Frame) (s : List ℕ) (at e k v : ℕ) (h : shortAt (f .names) s a
       by-size z n m (λ R. ap Sized (g ∙ ap (Bounded 8) (zigzag-as type (short-kind (f .names) s at e k v h) (short-number (f .names) s at e k v h))) ∙ subst (λ (j : ℕ). Sized (Bounded 8 (zigZagEnd type)) ≡ encodedSize R (shortEncoding j) type) (sym i) refl)
 
   pub short-name : e ≡ 0 → (p : ℕ) → p ≡ at + 2 → Settles f s at (Settled.At p)
-  unfolding Settles fieldSize encodedSize
+  unfolding Settles encodedSize
   short-name i p m x end q =
       let g = is-own x end q in (
         at + 4,
@@ -102,19 +102,19 @@ module _ (f : Frame) (s : List ℕ) (at e k v : ℕ) (h : shortAt (f .names) s a
         λ R.
             ap (λ (y : Field). typeSize R (y .type)) (sym (g .0))
             ∙ subst (λ (j : ℕ). typeSize R type ≡ encodedSize R (shortEncoding j) type) (sym i) refl
-            ∙ ap (fieldSize R) (g .0),
+            ∙ ap (fieldAlone R) (g .0),
       )
 
 -- what was settled, once it was matched
 module _ (f : Frame) (s : List ℕ) (at : ℕ) (r : Settled) (h : Settles f s at r) where
   pub is-settled : (w : Walked) → r ≡ Settled.Is w → (x : Field) (end : ℕ) → read (fieldAt (f .edition) (f .names)) s at ≡ done x end
-      → (w .next ≡ end) × ((R : Resolver) → w .worked ≡ fieldSize R x)
+      → (w .next ≡ end) × ((R : Resolver) → w .worked ≡ fieldAlone R x)
   unfolding Settles
   is-settled w e = subst (Settles f s at) e h
 
   pub at-settled : (p : ℕ) → r ≡ Settled.At p → (x : Field) (end : ℕ) → read (fieldAt (f .edition) (f .names)) s at ≡ done x end
       → (behind : ℕ) × (read (typeAt (f .names)) s p ≡ done (x .type) behind) × (read (limitAt (f .edition)) s behind ≡ done (x .limit) end)
-      × ((R : Resolver) → typeSize R (x .type) ≡ fieldSize R x)
+      × ((R : Resolver) → typeSize R (x .type) ≡ fieldAlone R x)
   unfolding Settles
   at-settled p e = subst (Settles f s at) e h
 

@@ -12,6 +12,7 @@ use Rattle.slot.specs.declared.Edition.{Edition}
 use Rattle.image.specs.Schema.{Schema}
 use Rattle.image.specs.declared.Frame.{Frame}
 use Rattle.reader.specs.Reading.{schemaOf}
+use Rattle.sizes.specs.declared.Layout.{Layout}
 use Rattle.sizes.specs.declared.Size.{Size}
 use Rattle.sizes.specs.declared.Size.the-variants.{Bounded}
 use Rattle.sizes.specs.declared.Operation.{Operation}
@@ -28,37 +29,37 @@ use Rattle.wiresize.proofs.Fields.{none-left, first-of, same-thing, fie
 pub clash : {b c : Bool} → b ≡ true → b ≡ c → c ≡ false → ⊥
 clash p q r = let z : true ≡ false = cc in let n : _≡_ {A = ℕ} 0 1 = cc in omega arith
 
-extremes-on : (R : Resolver) (extremes : Size) (v : List Field) (vs : List (List Field)) {z : Size} → Sized z ≡ fieldsSize R v
-    → addVariants R extremes (v ∷ vs) ≡ addVariants R (widened extremes z) vs
+extremes-on : (L : Layout) (R : Resolver) (extremes : Size) (v : List Field) (vs : List (List Field)) {z : Size} → Sized z ≡ fieldsSize L R v
+    → addVariants L R extremes (v ∷ vs) ≡ addVariants L R (widened extremes z) vs
 unfolding addVariants then
-extremes-on R extremes v vs e = rw (← e)
+extremes-on L R extremes v vs e = rw (← e)
 
-extremes-over : (R : Resolver) (extremes : Size) (v : List Field) (vs : List (List Field)) → (o : Operation) → Over o ≡ fieldsSize R v → addVariants R extremes (v ∷ vs) ≡ Over o
+extremes-over : (L : Layout) (R : Resolver) (extremes : Size) (v : List Field) (vs : List (List Field)) → (o : Operation) → Over o ≡ fieldsSize L R v → addVariants L R extremes (v ∷ vs) ≡ Over o
 unfolding addVariants then
-extremes-over R extremes v vs o e = rw (← e)
+extremes-over L R extremes v vs o e = rw (← e)
 
-extremes-done : (R : Resolver) (extremes : Size) {vs : List (List Field)} → [] ≡ vs → addVariants R extremes vs ≡ Sized extremes
+extremes-done : (L : Layout) (R : Resolver) (extremes : Size) {vs : List (List Field)} → [] ≡ vs → addVariants L R extremes vs ≡ Sized extremes
 unfolding addVariants
-extremes-done R extremes e = rw (← e)
+extremes-done L R extremes e = rw (← e)
 
-union-over : (R : Resolver) (vs : List (List Field)) (o : Operation) → addVariants R (Bounded mark 0) vs ≡ Over o → Over o ≡ unionSize R vs
+union-over : (L : Layout) (R : Resolver) (vs : List (List Field)) (o : Operation) → addVariants L R (Bounded mark 0) vs ≡ Over o → Over o ≡ unionSize L R vs
 unfolding unionSize addVariants then
-union-over R [] o e = over-not (sym e)
-union-over R (v ∷ vs) o e = rw e
+union-over L R [] o e = over-not (sym e)
+union-over L R (v ∷ vs) o e = rw e
 
-union-sized : (R : Resolver) (vs : List (List Field)) → 0 < length vs → {x : Size} {r : Worked} → addVariants R (Bounded mark 0) vs ≡ Sized x
-    → r ≡ limitedSum (raised 8 x) → r ≡ unionSize R vs
+union-sized : (L : Layout) (R : Resolver) (vs : List (List Field)) → 0 < length vs → {x : Size} {r : Worked} → addVariants L R (Bounded mark 0) vs ≡ Sized x
+    → r ≡ limitedSum (raised 8 x) → r ≡ unionSize L R vs
 unfolding unionSize then
-union-sized R [] h e q = absurd (omega arith)
-union-sized R (v ∷ vs) h e q = q ∙ rw e
+union-sized L R [] h e q = absurd (omega arith)
+union-sized L R (v ∷ vs) h e q = q ∙ rw e
 
 -- a union without variants, by itself
-pub union-none : (R : Resolver) (vs : List (List Field)) → length vs ≡ 0 → Sized (Bounded 8 8) ≡ unionSize R vs
+pub union-none : (L : Layout) (R : Resolver) (vs : List (List Field)) → length vs ≡ 0 → Sized (Bounded 8 8) ≡ unionSize L R vs
 unfolding unionSize
-union-none R [] h = refl
-union-none R (v ∷ vs) h = absurd (omega arith)
+union-none L R [] h = refl
+union-none L R (v ∷ vs) h = absurd (omega arith)
 
-module _ (s : List ℕ) (f : Frame) (rows : List ℕ) (w : List Bool) (count first : ℕ) where
+module _ (L : Layout) (s : List ℕ) (f : Frame) (rows : List ℕ) (w : List Bool) (count first : ℕ) where
   abbrev pub S : Schema
   S = schemaOf (f .edition) s
 
@@ -71,11 +72,11 @@ module _ (s : List ℕ) (f : Frame) (rows : List ℕ) (w : List Bool) (count fir
     pub end : ℕ
     pub reads : read (many left (fieldsAt (f .edition) (f .names))) s here ≡ done variants end
     pub widens : (vs : List (List Field)) (e : ℕ) → Whole vs e → (st : State) → RowsHold S st rows
-        → addVariants (resolver S st w) extremes variants ≡ addVariants (resolver S st w) (Bounded mark 0) vs
+        → addVariants L (resolver L S st w) extremes variants ≡ addVariants L (resolver L S st w) (Bounded mark 0) vs
 
   pub variants-start : (vs : List (List Field)) (e : ℕ) → Whole vs e → VariantsLeft count first (Bounded mark 0)
   variants-start vs e q =
-      record { variants = vs; end = e; reads = q; widens = λ xs d p st H. ap (addVariants (resolver S st w) (Bounded mark 0)) (same-thing q p .0) }
+      record { variants = vs; end = e; reads = q; widens = λ xs d p st H. ap (addVariants L (resolver L S st w) (Bounded mark 0)) (same-thing q p .0) }
 
   module _ {left here : ℕ} {extremes : Size} (l : VariantsLeft left here extremes) where
     module _ (h : 0 < left) where
@@ -86,38 +87,38 @@ module _ (s : List ℕ) (f : Frame) (rows : List ℕ) (w : List Bool) (count fir
         pub variant-fields : read (many fields (fieldAt (f .edition) (f .names))) s after ≡ done (next-variant .first) (next-variant .middle)
         variant-fields = fields-behind s (f .edition) (f .names) here b (next-variant .here)
 
-        pub variant-start : {total : List ℕ} → total ≡ totalOf (Size.Fixed 0) → FieldsLeft s f rows w fields after fields after total
-        variant-start i = fields-start s f rows w fields after _ _ variant-fields i
+        pub variant-start : {total : List ℕ} → total ≡ totalOf (Size.Fixed 0) → FieldsLeft L s f rows w fields after fields after total
+        variant-start i = fields-start L s f rows w fields after _ _ variant-fields i
 
-        pub variant-turn : {more at : ℕ} {total : List ℕ} {z wider : Size} → FieldsLeft s f rows w fields after more at total → more ≤ 0
+        pub variant-turn : {more at : ℕ} {total : List ℕ} {z wider : Size} → FieldsLeft L s f rows w fields after more at total → more ≤ 0
             → z ≡ sizeOf total → wider ≡ widened extremes z → VariantsLeft (left - 1) at wider
         variant-turn i m c d =
             let g = next-variant in
-            let n = fields-end s f rows w fields after i m _ _ variant-fields in
+            let n = fields-end L s f rows w fields after i m _ _ variant-fields in
             record {
               variants = g .others;
               end = l .end;
               reads = subst (λ (p : ℕ). read (many (left - 1) (fieldsAt (f .edition) (f .names))) s p ≡ done (g .others) (l .end)) (sym n) (g .rest);
               widens = λ vs e q st H.
-                  ap (λ (x : Size). addVariants (resolver S st w) x (g .others)) d
-                  ∙ sym (ap (addVariants (resolver S st w) extremes) (g .whole)
-                  ∙ extremes-on _ extremes (g .first) (g .others) (fields-sum s f rows w fields after i m _ _ variant-fields c st H))
+                  ap (λ (x : Size). addVariants L (resolver L S st w) x (g .others)) d
+                  ∙ sym (ap (addVariants L (resolver L S st w) extremes) (g .whole)
+                  ∙ extremes-on L _ extremes (g .first) (g .others) (fields-sum L s f rows w fields after i m _ _ variant-fields c st H))
                   ∙ l .widens vs e q st H;
             }
 
         pub variant-over : (o : Operation) → ((fs : List Field) (e : ℕ) → read (many fields (fieldAt (f .edition) (f .names))) s after ≡ done fs e → (st : State) → RowsHold S st rows
-            → Over o ≡ fieldsSize (resolver S st w) fs) → (vs : List (List Field)) (e : ℕ) → Whole vs e → (st : State) → RowsHold S st rows
-            → Over o ≡ unionSize (resolver S st w) vs
+            → Over o ≡ fieldsSize L (resolver L S st w) fs) → (vs : List (List Field)) (e : ℕ) → Whole vs e → (st : State) → RowsHold S st rows
+            → Over o ≡ unionSize L (resolver L S st w) vs
         variant-over o h′ vs e q st H =
             let g = next-variant in
-            union-over _ vs o (sym (l .widens vs e q st H) ∙ ap (addVariants (resolver S st w) extremes) (g .whole)
-            ∙ extremes-over _ extremes (g .first) (g .others) o (h′ _ _ variant-fields st H))
+            union-over L _ vs o (sym (l .widens vs e q st H) ∙ ap (addVariants L (resolver L S st w) extremes) (g .whole)
+            ∙ extremes-over L _ extremes (g .first) (g .others) o (h′ _ _ variant-fields st H))
 
     pub variants-end : 0 < count → left ≤ 0 → {r : Worked} → r ≡ limitedSum (raised 8 extremes) → (vs : List (List Field)) (e : ℕ) → Whole vs e → (st : State)
-        → RowsHold S st rows → r ≡ unionSize (resolver S st w) vs
+        → RowsHold S st rows → r ≡ unionSize L (resolver L S st w) vs
     variants-end c h q vs e p st H =
-        union-sized _ vs (let z = many-length (fieldsAt (f .edition) (f .names)) s count first vs e p in omega arith)
-        (sym (l .widens vs e p st H) ∙ extremes-done _ extremes (none-left (fieldsAt (f .edition) (f .names)) s left here h (l .variants) (l .end) (l .reads) .0)) q
+        union-sized L _ vs (let z = many-length (fieldsAt (f .edition) (f .names)) s count first vs e p in omega arith)
+        (sym (l .widens vs e p st H) ∙ extremes-done L _ extremes (none-left (fieldsAt (f .edition) (f .names)) s left here h (l .variants) (l .end) (l .reads) .0)) q
 
 -- the variants behind their count
 pub variants-behind : (s : List ℕ) (ed : Edition) (names at : ℕ) {count first : ℕ} → below 65537 s at ≡ done count first → {vs : List (List Field)} {e : ℕ}

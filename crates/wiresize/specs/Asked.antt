@@ -10,6 +10,7 @@ use Rattle.image.specs.Schema.{Schema}
 use Rattle.image.specs.declared.Frame.{Frame}
 use Rattle.reader.specs.Reading.{schemaOf}
 use Rattle.reader.specs.Promise.{Promise}
+use Rattle.sizes.specs.declared.Layout.{Layout}
 use Rattle.sizes.specs.declared.Size.{Size}
 use Rattle.sizes.specs.declared.Worked.{Worked}
 use Rattle.sizes.specs.declared.Worked.the-variants.{Sized, Over}
@@ -38,20 +39,20 @@ pub record Asked {A : Type 0} (g : Grammar A) (s starts : List ℕ) (f : Frame) 
   pub reads : read g s at ≡ done thing end
 
 -- what names come to while slots are marked
-abbrev pub resolver : Schema → State → List Bool → Resolver
-resolver S st w = nameSize S st (marked w)
+abbrev pub resolver : Layout → Schema → State → List Bool → Resolver
+resolver L S st w = nameSize L S st (marked w)
 
 -- the size of what stands there, whatever the sizes stored, if the table holds them
-pub record WorksOut {A : Type 0} (g : Grammar A) (size : Resolver → A → Worked) (s : List ℕ) (f : Frame) (rows : List ℕ) (w : List Bool) (at : ℕ) (r : Worked) : Type 0 where
-  pub worked : (x : A) (end : ℕ) → read g s at ≡ done x end → (st : State) → RowsHold (schemaOf (f .edition) s) st rows → r ≡ size (resolver (schemaOf (f .edition) s) st w) x
+pub record WorksOut (L : Layout) {A : Type 0} (g : Grammar A) (size : Resolver → A → Worked) (s : List ℕ) (f : Frame) (rows : List ℕ) (w : List Bool) (at : ℕ) (r : Worked) : Type 0 where
+  pub worked : (x : A) (end : ℕ) → read g s at ≡ done x end → (st : State) → RowsHold (schemaOf (f .edition) s) st rows → r ≡ size (resolver L (schemaOf (f .edition) s) st w) x
 
 -- and, where it has one, the position after it
-pub record Walks {A : Type 0} (g : Grammar A) (size : Resolver → A → Worked) (s : List ℕ) (f : Frame) (rows : List ℕ) (w : List Bool) (at : ℕ) (r : Walked) : Type 0 where
+pub record Walks (L : Layout) {A : Type 0} (g : Grammar A) (size : Resolver → A → Worked) (s : List ℕ) (f : Frame) (rows : List ℕ) (w : List Bool) (at : ℕ) (r : Walked) : Type 0 where
   pub next : (x : A) (end : ℕ) → read g s at ≡ done x end → (z : Size) → r .worked ≡ Sized z → r .next ≡ end
-  pub works : WorksOut g size s f rows w at (r .worked)
+  pub works : WorksOut L g size s f rows w at (r .worked)
 
-pub record Names (S : Schema) (rows : List ℕ) (w : List Bool) (id : ℕ) (r : Worked) : Type 0 where
-  pub worked : (st : State) → RowsHold S st rows → r ≡ resolver S st w id
+pub record Names (L : Layout) (S : Schema) (rows : List ℕ) (w : List Bool) (id : ℕ) (r : Worked) : Type 0 where
+  pub worked : (st : State) → RowsHold S st rows → r ≡ resolver L S st w id
 
 -- the table holds the sizes of some state: what it holds of messages and unions is all that a size depends on
 pub record Held (S : Schema) (rows : List ℕ) : Type 0 where
@@ -64,5 +65,5 @@ turnOf (Turned.Sized s) = some (Sized s)
 turnOf (Turned.Over o) = some (Over o)
 turnOf Turned.Other = none
 
-pub record Owns (S : Schema) (rows : List ℕ) (slot : ℕ) (r : Turned) : Type 0 where
-  pub turn : (st : State) → RowsHold S st rows → turnOf r ≡ ownSize S st slot
+pub record Owns (L : Layout) (S : Schema) (rows : List ℕ) (slot : ℕ) (r : Turned) : Type 0 where
+  pub turn : (st : State) → RowsHold S st rows → turnOf r ≡ ownSize L S st slot

@@ -12,12 +12,17 @@ use Rattle.image.specs.declared.Frame.{Frame}
 use Rattle.sizes.specs.declared.Size.{Size}
 use Rattle.sizes.specs.declared.Worked.{Worked}
 use Rattle.sizes.specs.declared.Worked.the-variants.{Sized, Over}
-use Rattle.sizes.specs.Sizes.{then, limitedSum, limitedProduct, Resolver, countOf, wrapSize, typeSize, fieldSize, raised, widened, multiplied, withoutLargest}
+use Rattle.sizes.specs.Sizes.{then, limitedSum, limitedProduct, Resolver, countOf, wrapSize, typeSize, fieldAlone, raised, widened, multiplied, withoutLargest}
+use Rattle.wiresize.specs.declared.Scope.{Scope}
 use Rattle.wiresize.specs.declared.Walked.{Walked}
 use Rattle.wiresize.specs.declared.Decided.{Decided}
 use Rattle.wiresize.specs.declared.Coded.{Coded}
 use Rattle.wiresize.specs.declared.Settled.{Settled}
 use Rattle.wiresize.specs.declared.Turned.{Turned}
+
+-- the frame that is handed down
+abbrev pub frameOf : Scope → Frame
+frameOf c = record { edition = c .edition; names = c .names; finds = c .finds; slots = c .slots; declared = c .declared; declarations = c .declarations }
 
 -- the kind and the number of a type, by its head
 abbrev pub kindIn : Head → ℕ
@@ -120,14 +125,14 @@ Codes names s at r =
 abbrev pub LimitTo : Frame → List ℕ → (at next : ℕ) → Type 0
 LimitTo f s at next = (l end : ℕ) → read (limitAt (f .edition)) s at ≡ done l end → next ≡ end
 
--- a field: its size, whatever names come to, and the position after it; or where its type stands, if that decides
+-- a field by itself: its size, whatever names come to, and the position after it; or where its type stands, if that decides
 unfoldable pub Settles : Frame → List ℕ → (at : ℕ) → Settled → Type 0
 Settles f s at (Settled.Is w) =
-    (x : Field) (end : ℕ) → read (fieldAt (f .edition) (f .names)) s at ≡ done x end → (w .next ≡ end) × ((R : Resolver) → w .worked ≡ fieldSize R x)
+    (x : Field) (end : ℕ) → read (fieldAt (f .edition) (f .names)) s at ≡ done x end → (w .next ≡ end) × ((R : Resolver) → w .worked ≡ fieldAlone R x)
 Settles f s at (Settled.At p) =
     (x : Field) (end : ℕ) → read (fieldAt (f .edition) (f .names)) s at ≡ done x end
     → (behind : ℕ) × (read (typeAt (f .names)) s p ≡ done (x .type) behind) × (read (limitAt (f .edition)) s behind ≡ done (x .limit) end)
-    × ((R : Resolver) → typeSize R (x .type) ≡ fieldSize R x)
+    × ((R : Resolver) → typeSize R (x .type) ≡ fieldAlone R x)
 
 -- what was worked out up to a limit, and the position after the limit
 pub record PastLimit (f : Frame) (s : List ℕ) (field r : Walked) : Type 0 where

@@ -2,9 +2,11 @@
 use image::Frame;
 use number::Next;
 use number::Ranged;
+use sizes::Layout;
 use sizes::Operation;
 use sizes::Size;
 use sizes::Worked;
+use slot::Edition;
 use slot::Short;
 use total::Step;
 use tree::Head;
@@ -23,10 +25,21 @@ ghost use Rattle.slot.specs.declared.Short.{Short};
 ghost use Rattle.image.specs.declared.Frame.{Frame};
 ghost use Rattle.reader.specs.Reading.{schemaOf};
 ghost use Rattle.reader.specs.Promise.{Promise};
-ghost use Rattle.sizes.specs.Sizes.{typeSize, fieldSize, fieldsSize, unionSize, varintEnd, zigZagEnd};
-ghost use Rattle.wiresize.specs.Steps.{codedAs, kindIn, numberIn, Passed, Decides, Codes, Settles, LimitTo, PastLimit, Wraps, Results, Arrays, Closes, turnedAs};
+ghost use Rattle.sizes.specs.Sizes.{typeSize, fieldAlone, fieldsSize, unionSize, varintEnd, zigZagEnd};
+ghost use Rattle.wiresize.specs.Steps.{frameOf, codedAs, kindIn, numberIn, Passed, Decides, Codes, Settles, LimitTo, PastLimit, Wraps, Results, Arrays, Closes, turnedAs};
 ghost use Rattle.wiresize.specs.Rows.{rowAt};
 ghost use Rattle.wiresize.specs.Asked.{Asked, Ready, Walks, WorksOut, Names, Held, Owns};
+
+// The frame of an accepted image, and how fields follow one another: one thing to hand down, since types nest.
+pub struct Scope {
+    pub edition: Edition,
+    pub layout: Layout,
+    pub names: u64,
+    pub finds: usize,
+    pub slots: u64,
+    pub declared: usize,
+    pub declarations: u64,
+}
 
 // A size that was worked out, and the position after its type.
 pub struct Walked {
@@ -181,27 +194,27 @@ fn field_type(image: &[u8], at: usize, names: u64) -> Coded
 }
 
 // A field's limit stands behind its type; what is worked out does not depend on it.
-fn pass_limit(image: &[u8], field: Walked, frame: Frame) -> Walked
-    ensures { λ r. ⌜ PastLimit frame (now (image .entry)) field r ⌝ }
+fn pass_limit(image: &[u8], field: Walked, scope: Scope) -> Walked
+    ensures { λ r. ⌜ PastLimit (frameOf scope) (now (image .entry)) field r ⌝ }
 {
-    let edition = frame.edition;
+    let edition = scope.edition;
     let worked = field.worked;
     let next = view::place_of(slot::skip_limit(image, Next::At(field.next), edition));
     Walked { worked, next }
 }
 
-fn settle_long(image: &[u8], at: usize, frame: Frame) -> Settled
-    ensures { λ r. ⌜ Settles frame (now (image .entry)) at r ⌝ }
+fn settle_long(image: &[u8], at: usize, scope: Scope) -> Settled
+    ensures { λ r. ⌜ Settles (frameOf scope) (now (image .entry)) at r ⌝ }
 {
-    match field_type(image, at, frame.names) {
+    match field_type(image, at, scope.names) {
         Coded::Plain(p) => Settled::At(p),
         Coded::Varint(p) => {
-            let field = varint_type(image, p, frame.names);
-            Settled::Is(pass_limit(image, field, frame))
+            let field = varint_type(image, p, scope.names);
+            Settled::Is(pass_limit(image, field, scope))
         }
         Coded::ZigZag(p) => {
-            let field = zigzag_type(image, p, frame.names);
-            Settled::Is(pass_limit(image, field, frame))
+            let field = zigzag_type(image, p, scope.names);
+            Settled::Is(pass_limit(image, field, scope))
         }
     }
 }
@@ -229,16 +242,16 @@ fn settle_short(place: usize, next: usize, encoding: u64, kind: u64, number: u64
     }
 }
 
-fn settle(image: &[u8], at: usize, frame: Frame) -> Settled
-    ensures { λ r. ⌜ Settles frame (now (image .entry)) at r ⌝ }
+fn settle(image: &[u8], at: usize, scope: Scope) -> Settled
+    ensures { λ r. ⌜ Settles (frameOf scope) (now (image .entry)) at r ⌝ }
 {
-    let edition = frame.edition;
-    match slot::short_field(image, at, frame.names) {
+    let edition = scope.edition;
+    match slot::short_field(image, at, scope.names) {
         Short::Is(encoding, kind, number) => {
             let next = view::place_of(slot::skip_limit(image, Next::At(at + 4), edition));
             settle_short(at + 2, next, encoding, kind, number)
         }
-        Short::Other => settle_long(image, at, frame),
+        Short::Other => settle_long(image, at, scope),
     }
 }
 
@@ -353,15 +366,15 @@ fn head_wire_size(head: Head) -> Decided
 fn compute_resolved_type_wire_size(
     image: &[u8],
     starts: &[usize],
-    frame: Frame,
+    scope: Scope,
     rows: &[u64],
     at: usize,
     working: &[bool; 512],
 ) -> Walked
-    requires { ⌜ Asked (typeAt (frame .names)) (now image) (now starts) frame (now rows) (now working) at ⌝ }
-    ensures { λ r. ⌜ Walks (typeAt (frame .names)) typeSize (now (image .entry)) frame (now (rows .entry)) (now (working .entry)) at r ⌝ }
+    requires { ⌜ Asked (typeAt (scope .names)) (now image) (now starts) (frameOf scope) (now rows) (now working) at ⌝ }
+    ensures { λ r. ⌜ Walks (scope .layout) (typeAt (scope .names)) typeSize (now (image .entry)) (frameOf scope) (now (rows .entry)) (now (working .entry)) at r ⌝ }
 {
-    let names = frame.names;
+    let names = scope.names;
     let head = tree::read_head(image, at, Sort::Resolved, names);
     match head_wire_size(head) {
         Decided::Leaf(size, next) => Walked {
@@ -370,21 +383,21 @@ fn compute_resolved_type_wire_size(
         },
         Decided::Pass(size) => pass_type(image, at, names, size),
         Decided::Name(id, next) => {
-            let worked = named_type_wire_size(image, starts, frame, rows, id, working);
+            let worked = named_type_wire_size(image, starts, scope, rows, id, working);
             Walked { worked, next }
         }
         Decided::One(kind, body) => {
-            let child = compute_resolved_type_wire_size(image, starts, frame, rows, body, working);
+            let child = compute_resolved_type_wire_size(image, starts, scope, rows, body, working);
             close_one(image, kind, child)
         }
         Decided::Sides(body) => {
-            let ok = compute_resolved_type_wire_size(image, starts, frame, rows, body, working);
+            let ok = compute_resolved_type_wire_size(image, starts, scope, rows, body, working);
             let worked = ok.worked;
             let Worked::Sized(size) = worked else {
                 return ok;
             };
             let place = ok.next;
-            let err = compute_resolved_type_wire_size(image, starts, frame, rows, place, working);
+            let err = compute_resolved_type_wire_size(image, starts, scope, rows, place, working);
             join_sides(size, err)
         }
     }
@@ -394,15 +407,15 @@ fn compute_resolved_type_wire_size(
 fn named_type_wire_size(
     image: &[u8],
     starts: &[usize],
-    frame: Frame,
+    scope: Scope,
     rows: &[u64],
     id: u64,
     working: &[bool; 512],
 ) -> Worked
-    requires { ⌜ Ready (now image) (now starts) frame (now rows) (now working) ⌝ }
-    ensures { λ r. ⌜ Names (schemaOf (frame .edition) (now (image .entry))) (now (rows .entry)) (now (working .entry)) id r ⌝ }
+    requires { ⌜ Ready (now image) (now starts) (frameOf scope) (now rows) (now working) ⌝ }
+    ensures { λ r. ⌜ Names (scope .layout) (schemaOf (scope .edition) (now (image .entry))) (now (rows .entry)) (now (working .entry)) id r ⌝ }
 {
-    if id >= frame.slots {
+    if id >= scope.slots {
         return Worked::Sized(Size::Open(0));
     }
     let slot = id as usize;
@@ -415,60 +428,63 @@ fn named_type_wire_size(
     let Part::At(kind, _) = view::slot_part(image, starts, slot) else {
         return Worked::Sized(Size::Open(0));
     };
+    let layout = scope.layout;
     match kind {
         1 => {
             let mut inside = *working;
             inside[slot] = true;
             let place = view::slot_inside(image, starts, slot);
-            compute_message_wire_size(image, starts, frame, rows, place, &inside)
+            compute_message_wire_size(image, starts, scope, rows, place, &inside, layout)
         }
         4 => {
             let mut inside = *working;
             inside[slot] = true;
             let place = view::slot_inside(image, starts, slot);
-            compute_union_wire_size(image, starts, frame, rows, place, &inside)
+            compute_union_wire_size(image, starts, scope, rows, place, &inside, layout)
         }
         5 => {
             let place = view::slot_inside(image, starts, slot);
-            let term = compute_resolved_type_wire_size(image, starts, frame, rows, place, working);
+            let term = compute_resolved_type_wire_size(image, starts, scope, rows, place, working);
             term.worked
         }
         _ => Worked::Sized(Size::Open(0)),
     }
 }
 
-// A field: its type, unless what is known before names settles it.
+// A field by itself: its type, unless what is known before names settles it.
 fn compute_type_wire_size(
     image: &[u8],
     starts: &[usize],
-    frame: Frame,
+    scope: Scope,
     rows: &[u64],
     at: usize,
     working: &[bool; 512],
 ) -> Walked
-    requires { ⌜ Asked (fieldAt (frame .edition) (frame .names)) (now image) (now starts) frame (now rows) (now working) at ⌝ }
-    ensures { λ r. ⌜ Walks (fieldAt (frame .edition) (frame .names)) fieldSize (now (image .entry)) frame (now (rows .entry)) (now (working .entry)) at r ⌝ }
+    requires { ⌜ Asked (fieldAt (scope .edition) (scope .names)) (now image) (now starts) (frameOf scope) (now rows) (now working) at ⌝ }
+    ensures { λ r. ⌜ Walks (scope .layout) (fieldAt (scope .edition) (scope .names)) fieldAlone (now (image .entry)) (frameOf scope) (now (rows .entry)) (now (working .entry)) at r ⌝ }
 {
-    match settle(image, at, frame) {
+    match settle(image, at, scope) {
         Settled::Is(field) => field,
         Settled::At(p) => {
-            let field = compute_resolved_type_wire_size(image, starts, frame, rows, p, working);
-            pass_limit(image, field, frame)
+            let field = compute_resolved_type_wire_size(image, starts, scope, rows, p, working);
+            pass_limit(image, field, scope)
         }
     }
 }
 
-// A message, from the count of its fields on.
+// A message, from the count of its fields on. The layout is handed in beside the scope: read from it here, it would have the scope
+// taken apart for each field.
 fn compute_message_wire_size(
     image: &[u8],
     starts: &[usize],
-    frame: Frame,
+    scope: Scope,
     rows: &[u64],
     at: usize,
     working: &[bool; 512],
+    layout: Layout,
 ) -> Worked
-    requires { ⌜ Asked (fieldsAt (frame .edition) (frame .names)) (now image) (now starts) frame (now rows) (now working) at ⌝ }
-    ensures { λ r. ⌜ WorksOut (fieldsAt (frame .edition) (frame .names)) fieldsSize (now (image .entry)) frame (now (rows .entry)) (now (working .entry)) at r ⌝ }
+    requires { ⌜ Asked (fieldsAt (scope .edition) (scope .names)) (now image) (now starts) (frameOf scope) (now rows) (now working) at × (layout ≡ scope .layout) ⌝ }
+    ensures { λ r. ⌜ WorksOut (scope .layout) (fieldsAt (scope .edition) (scope .names)) (fieldsSize (scope .layout)) (now (image .entry)) (frameOf scope) (now (rows .entry)) (now (working .entry)) at r ⌝ }
 {
     let Ranged::Value(count, first) = number::read_below(image, at, 65537) else {
         return Worked::Over(Operation::Sum);
@@ -477,8 +493,11 @@ fn compute_message_wire_size(
     let mut here = first;
     let mut left = count;
     while 0 < left {
-        let field = compute_type_wire_size(image, starts, frame, rows, here, working);
-        let worked = field.worked;
+        let field = compute_type_wire_size(image, starts, scope, rows, here, working);
+        let mut worked = field.worked;
+        if let Layout::Aligned = layout {
+            worked = measures::round_field(worked);
+        }
         if let Step::Over(by) = total::add_field(&mut total, worked) {
             return Worked::Over(by);
         }
@@ -492,13 +511,14 @@ fn compute_message_wire_size(
 fn compute_union_wire_size(
     image: &[u8],
     starts: &[usize],
-    frame: Frame,
+    scope: Scope,
     rows: &[u64],
     at: usize,
     working: &[bool; 512],
+    layout: Layout,
 ) -> Worked
-    requires { ⌜ Asked (counted (fieldsAt (frame .edition) (frame .names))) (now image) (now starts) frame (now rows) (now working) at ⌝ }
-    ensures { λ r. ⌜ WorksOut (counted (fieldsAt (frame .edition) (frame .names))) unionSize (now (image .entry)) frame (now (rows .entry)) (now (working .entry)) at r ⌝ }
+    requires { ⌜ Asked (counted (fieldsAt (scope .edition) (scope .names))) (now image) (now starts) (frameOf scope) (now rows) (now working) at × (layout ≡ scope .layout) ⌝ }
+    ensures { λ r. ⌜ WorksOut (scope .layout) (counted (fieldsAt (scope .edition) (scope .names))) (unionSize (scope .layout)) (now (image .entry)) (frameOf scope) (now (rows .entry)) (now (working .entry)) at r ⌝ }
 {
     let Ranged::Value(count, first) = number::read_below(image, at, 65537) else {
         return Worked::Over(Operation::Sum);
@@ -520,8 +540,11 @@ fn compute_union_wire_size(
         let mut total = total::empty_total();
         let mut more = fields;
         while 0 < more {
-            let field = compute_type_wire_size(image, starts, frame, rows, here, working);
-            let worked = field.worked;
+            let field = compute_type_wire_size(image, starts, scope, rows, here, working);
+            let mut worked = field.worked;
+            if let Layout::Aligned = layout {
+                worked = measures::round_field(worked);
+            }
             if let Step::Over(operation) = total::add_field(&mut total, worked) {
                 over = true;
                 by = operation;
@@ -549,23 +572,40 @@ fn turn_from(worked: Worked) -> Turned
 }
 
 // A declared slot at its turn, itself being worked out.
-pub fn own_size(image: &[u8], starts: &[usize], frame: Frame, rows: &[u64], slot: usize) -> Turned
+pub fn own_size(
+    image: &[u8],
+    starts: &[usize],
+    frame: Frame,
+    layout: Layout,
+    rows: &[u64],
+    slot: usize,
+) -> Turned
     requires { ⌜ Promise (now image) (now starts) frame × (slot < frame .slots) × (3 * frame .slots ≤ length (now rows)) × Held (schemaOf (frame .edition) (now image)) (now rows) ⌝ }
-    ensures { λ r. ⌜ Owns (schemaOf (frame .edition) (now (image .entry))) (now (rows .entry)) slot r ⌝ }
+    ensures { λ r. ⌜ Owns layout (schemaOf (frame .edition) (now (image .entry))) (now (rows .entry)) slot r ⌝ }
 {
     let Part::At(kind, _) = view::slot_part(image, starts, slot) else {
         return Turned::Other;
+    };
+    let edition = frame.edition;
+    let scope = Scope {
+        edition,
+        layout,
+        names: frame.names,
+        finds: frame.finds,
+        slots: frame.slots,
+        declared: frame.declared,
+        declarations: frame.declarations,
     };
     let mut own = [false; 512];
     own[slot] = true;
     match kind {
         1 => {
             let place = view::slot_inside(image, starts, slot);
-            turn_from(compute_message_wire_size(image, starts, frame, rows, place, &own))
+            turn_from(compute_message_wire_size(image, starts, scope, rows, place, &own, layout))
         }
         4 => {
             let place = view::slot_inside(image, starts, slot);
-            turn_from(compute_union_wire_size(image, starts, frame, rows, place, &own))
+            turn_from(compute_union_wire_size(image, starts, scope, rows, place, &own, layout))
         }
         _ => Turned::Other,
     }

@@ -6,6 +6,7 @@
 use std::collections::HashSet;
 use std::fmt;
 
+use super::counts::{add_row, add_rows, add_there, named};
 use super::kinds::ROWS;
 use super::parts::type_kind;
 use super::Whole;
@@ -200,24 +201,6 @@ impl AddedCounts {
     }
 }
 
-fn add_rows<const N: usize, const M: usize>(rows: &mut [[u64; N]; M], more: &[[u64; N]; M]) {
-    for (row, more) in rows.iter_mut().zip(more) {
-        add_row(row, more);
-    }
-}
-
-fn add_row<const N: usize>(row: &mut [u64; N], more: &[u64; N]) {
-    for (count, more) in row.iter_mut().zip(more) {
-        *count += more;
-    }
-}
-
-fn named(all: &mut Vec<(String, u64)>, what: &str, columns: &[&str], row: &[u64]) {
-    for (column, &count) in columns.iter().zip(row) {
-        all.push((format!("{what} {column}"), count));
-    }
-}
-
 fn encoding_column(encoding: &Encoding) -> usize {
     match encoding {
         Encoding::Default => 2,
@@ -238,9 +221,7 @@ fn count_retired(row: &mut [u64; LISTS.len()], live: &HashSet<u32>, retired: &[T
         different.contains(&u32::MAX),
         retired.len() >= LONG,
     ];
-    for (count, there) in row.iter_mut().zip(there) {
-        *count += u64::from(there);
-    }
+    add_there(row, &there);
 }
 
 impl fmt::Display for AddedCounts {

@@ -1,14 +1,20 @@
 //! The whole answer of document 01 for an image and the places lent for it.
 //!
 //! Refusals 1 to 9 come from the importer, 11 and 14 from sizes worked out here
-//! in 128 bits, sizes and findings from the upstream check.
+//! in 128 bits, sizes and findings from the upstream check. It knows the packed
+//! layout alone: the sizes of the head board are those worked out here, once
+//! they are the upstream ones where nothing is rounded.
 
 mod added;
+mod aligned;
+mod brought;
+mod counts;
 mod fields;
 mod findings;
 mod kinds;
 mod limit;
 mod parts;
+mod rounding;
 mod sizes;
 mod steps;
 mod whole;
@@ -16,9 +22,11 @@ pub(crate) mod widths;
 
 use std::fmt::Write;
 
-use crate::format::Edition;
+use crate::format::Entry;
 use crate::import::Refusal;
 pub use added::AddedCounts;
+pub use aligned::AlignedCounts;
+pub use brought::{bringing, brought};
 pub use fields::{each_wanted, Wanted};
 pub use kinds::FieldCounts;
 pub use limit::{Operation, Part, PassedLimit};
@@ -65,8 +73,8 @@ fn refused(number: u64, place: u64) -> Answer {
 
 /// Answers an image, unless the check would take more than `STEP_LIMIT` steps.
 /// Slots that lead on and on take a long stack: see `workers::on_long_stack`.
-pub fn answer(image: &[u8], edition: Edition, places: Places) -> Result<Answer, TooLong> {
-    Whole::of(image, edition).answer(places)
+pub fn answer(image: &[u8], entry: impl Into<Entry>, places: Places) -> Result<Answer, TooLong> {
+    Whole::of(image, entry).answer(places)
 }
 
 /// The output of `vexcheck` for an answer.

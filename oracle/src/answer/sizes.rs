@@ -1,12 +1,15 @@
 //! Sizes by the rules of document 01, in 128 bits, to see what passes
-//! 2^63 - 1, and by document 02 which step is the first that does. Written
-//! apart from the upstream check, which adds in 64 bits.
+//! 2^63 - 1, and by document 02 which step is the first that does, and in
+//! either layout. Written apart from the upstream check, which adds in 64 bits
+//! and knows one layout.
 
+use super::brought::brought;
 use super::limit::{Halt, Operation, Part, PassedLimit, Worked};
+use super::rounding::{Rounding, BYTE};
 use super::steps::Steps;
 use super::widths::{enum_bits, flags_bytes, primitive_bits};
 use crate::ast::{PrimitiveType, SemanticType};
-use crate::format::SIZE_LIMIT;
+use crate::format::{Layout, SIZE_LIMIT};
 use crate::ir::{CompiledSchema, Encoding, FieldDef, ResolvedType, TypeDef, TypeId, WireSize};
 
 /// Why no size table came about.
@@ -21,10 +24,10 @@ pub enum Stop {
 
 /// Smallest and largest bits; `fixed` where the compiler says Fixed.
 #[derive(Clone, Copy)]
-struct Size {
-    fixed: bool,
-    least: u128,
-    most: Option<u128>,
+pub struct Size {
+    pub fixed: bool,
+    pub least: u128,
+    pub most: Option<u128>,
 }
 
 const ANY: Size = Size {
@@ -64,9 +67,19 @@ fn product(bits: u128, factor: u128) -> Worked<u128> {
     within(bits * factor, Operation::Product)
 }
 
+/// Rounding counts as a sum.
+fn whole_bytes(bits: u128) -> Worked<u128> {
+    within(bits.next_multiple_of(BYTE as u128), Operation::Sum)
+}
+
 /// Three numbers a slot, as they stand after the check.
-pub fn size_table(schema: &CompiledSchema, steps: &mut Steps) -> Result<Vec<u64>, Stop> {
-    let mut sizes = Sizes::new(schema, steps);
+pub fn size_table(
+    schema: &CompiledSchema,
+    layout: Layout,
+    steps: &mut Steps,
+    rounding: &mut Rounding,
+) -> Result<Vec<u64>, Stop> {
+    let mut sizes = Sizes::new(schema, layout, steps, rounding);
     for &id in &schema.declarations {
         let worked = match schema.registry.get(id) {
             Some(TypeDef::Message(_) | TypeDef::Union(_)) => sizes.work(id),
@@ -84,16 +97,23 @@ pub fn size_table(schema: &CompiledSchema, steps: &mut Steps) -> Result<Vec<u64>
 
 struct Sizes<'a> {
     schema: &'a CompiledSchema,
+    layout: Layout,
     /// Per slot: size of a message or union, if any so far.
     stored: Vec<Option<Size>>,
     /// Per slot: bits of an enum, bytes of flags.
     widths: Vec<u64>,
     working: Vec<bool>,
     steps: &'a mut Steps,
+    rounding: &'a mut Rounding,
 }
 
 impl<'a> Sizes<'a> {
-    fn new(schema: &'a CompiledSchema, steps: &'a mut Steps) -> Self {
+    fn new(
+        schema: &'a CompiledSchema,
+        layout: Layout,
+        steps: &'a mut Steps,
+        rounding: &'a mut Rounding,
+    ) -> Self {
         let slots = schema.registry.len();
         let mut declared = vec![false; slots];
         for id in &schema.declarations {
@@ -109,17 +129,15 @@ impl<'a> Sizes<'a> {
             Some(TypeDef::Flags(flags)) => flags.wire_bytes.into(),
             _ => 0,
         });
-        let stored = (0..slots).map(|slot| match definition(slot) {
-            Some(TypeDef::Message(message)) => message.wire_size.as_ref().map(brought),
-            Some(TypeDef::Union(un)) => un.wire_size.as_ref().map(brought),
-            _ => None,
-        });
+        let stored = (0..slots).map(|slot| brought(schema, slot).map(Size::from));
         Self {
             schema,
+            layout,
             stored: stored.collect(),
             widths: widths.collect(),
             working: vec![false; slots],
             steps,
+            rounding,
         }
     }
 
@@ -144,7 +162,7 @@ impl<'a> Sizes<'a> {
         self.steps.enter();
         let size = match self.schema.registry.get(id) {
             Some(TypeDef::Message(message)) => {
-                let size = self.total(&message.fields);
+                let size = self.total(&message.fields, Part::Message);
                 size.map_err(|halt| halt.inside(Part::Message))
             }
             Some(TypeDef::Union(un)) => {
@@ -159,10 +177,12 @@ impl<'a> Sizes<'a> {
         size
     }
 
-    fn total(&mut self, fields: &[FieldDef]) -> Worked<Size> {
+    /// The fields of a message, or of a union's variant.
+    fn total(&mut self, fields: &[FieldDef], owner: Part) -> Worked<Size> {
         let mut total = fixed(0);
         for field in fields {
             let size = self.field(field)?;
+            let size = self.laid(size, total, owner)?;
             total.least = sum(total.least, size.least)?;
             total.most = match (total.most, size.most) {
                 (Some(total), Some(most)) => Some(sum(total, most)?),
@@ -173,11 +193,25 @@ impl<'a> Sizes<'a> {
         Ok(total)
     }
 
+    /// A field's size as it is added to a total: on the head board in whole
+    /// bytes, and Fixed only if it was before.
+    fn laid(&mut self, size: Size, total: Size, owner: Part) -> Worked<Size> {
+        if self.layout == Layout::Packed {
+            return Ok(size);
+        }
+        self.rounding.note(owner, size, total);
+        Ok(Size {
+            least: whole_bytes(size.least)?,
+            most: size.most.map(whole_bytes).transpose()?,
+            ..size
+        })
+    }
+
     fn extremes<'f>(&mut self, variants: impl Iterator<Item = &'f [FieldDef]>) -> Worked<Size> {
         let mut least = None;
         let mut most = Some(0);
         for fields in variants {
-            let total = self.total(fields)?;
+            let total = self.total(fields, Part::Union)?;
             least = Some(least.map_or(total.least, |least: u128| least.min(total.least)));
             most = most.zip(total.most).map(|(one, other)| one.max(other));
         }
@@ -309,11 +343,13 @@ fn row(size: Size) -> [u64; 3] {
     }
 }
 
-fn brought(size: &WireSize) -> Size {
-    match *size {
-        WireSize::Fixed(bits) => fixed(bits.into()),
-        WireSize::Variable { min_bits, max_bits } => {
-            between(min_bits.into(), max_bits.map(u128::from))
+impl From<&WireSize> for Size {
+    fn from(size: &WireSize) -> Self {
+        match *size {
+            WireSize::Fixed(bits) => fixed(bits.into()),
+            WireSize::Variable { min_bits, max_bits } => {
+                between(min_bits.into(), max_bits.map(u128::from))
+            }
         }
     }
 }

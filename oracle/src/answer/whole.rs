@@ -2,14 +2,16 @@
 //! one working-out answers for tables of any length.
 
 use super::added::AddedCounts;
+use super::brought::bringing;
 use super::fields::each_wanted;
 use super::findings::{findings, mark_spans, Finding};
 use super::kinds::FieldCounts;
 use super::limit::PassedLimit;
+use super::rounding::Rounding;
 use super::sizes::{size_table, Stop};
 use super::steps::{Steps, TooLong, STEP_LIMIT};
 use super::{refused, Answer, Places};
-use crate::format::Edition;
+use crate::format::{Edition, Entry, Layout};
 use crate::import::{import, Refusal};
 use crate::ir::{CompiledSchema, TypeDef, TypeId, WireSize};
 use crate::typeck::{check, compute_wire_sizes};
@@ -18,6 +20,10 @@ use crate::typeck::{check, compute_wire_sizes};
 enum Failure {
     /// One of 1 to 9.
     Read(Refusal),
+    /// Refusal 15, at the lowest slot that brings a size.
+    Brought {
+        slot: u64,
+    },
     /// Refusal 11 or 14, at this declared slot.
     Limit {
         slot: u64,
@@ -54,60 +60,72 @@ pub struct Whole {
     pub fields: FieldCounts,
     /// What edition two adds, or was refused of it.
     pub added: AddedCounts,
+    /// What was rounded; nothing in the packed layout.
+    pub rounding: Rounding,
     sizes: Result<Vec<u64>, Failure>,
     findings: Result<Vec<u32>, TooLong>,
 }
 
 impl Whole {
     /// Sizes and findings.
-    pub fn of(image: &[u8], edition: Edition) -> Self {
-        Self::within(image, edition, STEP_LIMIT)
+    pub fn of(image: &[u8], entry: impl Into<Entry>) -> Self {
+        Self::within(image, entry, STEP_LIMIT)
     }
 
     /// Sizes and findings, if they take so many steps at most.
-    pub fn within(image: &[u8], edition: Edition, steps: u64) -> Self {
-        Self::worked(image, edition, true, steps)
+    pub fn within(image: &[u8], entry: impl Into<Entry>, steps: u64) -> Self {
+        Self::worked(image, entry.into(), true, steps)
     }
 
     /// Sizes alone; the findings are left out as if they took too long.
-    pub fn sizes_of(image: &[u8], edition: Edition) -> Self {
-        Self::worked(image, edition, false, STEP_LIMIT)
+    pub fn sizes_of(image: &[u8], entry: impl Into<Entry>) -> Self {
+        Self::worked(image, entry.into(), false, STEP_LIMIT)
     }
 
-    fn worked(image: &[u8], edition: Edition, with_findings: bool, steps: u64) -> Self {
+    fn worked(image: &[u8], entry: Entry, with_findings: bool, steps: u64) -> Self {
         let mut whole = Self {
             starts: Vec::new(),
             deepest: 0,
             unions: [0; 3],
             fields: FieldCounts::default(),
             added: AddedCounts::default(),
+            rounding: Rounding::default(),
             sizes: Err(Failure::TooLong),
             findings: Err(TooLong),
         };
-        let imported = import(image, edition);
-        if edition == Edition::Two {
+        let imported = import(image, entry.edition);
+        if entry.edition == Edition::Two {
             whole.added.count(image, &imported);
         }
         match imported {
             Ok(imported) => {
                 whole.starts = imported.starts;
-                whole.work_out(imported.schema, with_findings, steps);
+                whole.work_out(imported.schema, entry.layout, with_findings, steps);
             }
             Err(refusal) => whole.sizes = Err(Failure::Read(refusal)),
         }
         whole
     }
 
-    fn work_out(&mut self, mut schema: CompiledSchema, with_findings: bool, steps: u64) {
-        let mut steps = Steps::new(&schema, steps);
-        let expected = size_table(&schema, &mut steps);
-        self.deepest = steps.deepest();
-        let expected = match expected {
+    fn work_out(
+        &mut self,
+        mut schema: CompiledSchema,
+        layout: Layout,
+        with_findings: bool,
+        limit: u64,
+    ) {
+        let mut steps = Steps::new(&schema, limit);
+        let table = match self.table(&schema, layout, &mut steps) {
             Ok(table) => table,
-            Err(stop) => {
-                self.sizes = Err(stop.into());
+            Err(failure) => {
+                self.sizes = Err(failure);
                 return;
             }
+        };
+        // The upstream check packs, so its table is held against the packed one.
+        let packed = match layout {
+            Layout::Packed => table.clone(),
+            Layout::Aligned => packed_table(&schema, limit),
         };
         if with_findings && steps.charge_findings(&schema).is_ok() {
             let spans = mark_spans(&mut schema);
@@ -118,10 +136,25 @@ impl Whole {
         } else {
             compute_wire_sizes(&mut schema);
         }
-        let sizes = stored_table(&schema);
-        assert_eq!(sizes, expected, "sizes worked out here and upstream");
-        self.sizes = Ok(sizes);
+        let upstream = stored_table(&schema);
+        assert_eq!(upstream, packed, "sizes upstream and worked out here");
+        self.sizes = Ok(table);
         self.unions = union_turns(&schema);
+    }
+
+    fn table(
+        &mut self,
+        schema: &CompiledSchema,
+        layout: Layout,
+        steps: &mut Steps,
+    ) -> Result<Vec<u64>, Failure> {
+        let brings = bringing(schema).next();
+        if let (Layout::Aligned, Some(slot)) = (layout, brings) {
+            return Err(Failure::Brought { slot: slot as u64 });
+        }
+        let table = size_table(schema, layout, steps, &mut self.rounding);
+        self.deepest = steps.deepest();
+        Ok(table?)
     }
 
     /// Counts trait fields, and holds those that are not found here against
@@ -174,6 +207,7 @@ impl Whole {
     pub fn sizes_answer(&self, places: u64) -> Result<Answer, TooLong> {
         match &self.sizes {
             Err(Failure::Read(refusal)) => Ok((*refusal).into()),
+            Err(Failure::Brought { slot }) => Ok(refused(15, *slot)),
             _ if places < 3 * self.starts.len() as u64 => Ok(refused(10, 0)),
             Err(Failure::Limit { slot, passed }) => Ok(refused(passed.operation.number(), *slot)),
             Err(Failure::TooLong) => Err(TooLong),
@@ -200,6 +234,17 @@ impl Whole {
             findings,
         })
     }
+}
+
+/// The packed table of a schema whose aligned one is known: no size in it is
+/// larger, and it takes as many steps.
+fn packed_table(schema: &CompiledSchema, limit: u64) -> Vec<u64> {
+    let mut steps = Steps::new(schema, limit);
+    let nothing = &mut Rounding::default();
+    let table = size_table(schema, Layout::Packed, &mut steps, nothing);
+    table
+        .ok()
+        .expect("what is accepted aligned is accepted packed")
 }
 
 fn union_turns(schema: &CompiledSchema) -> Unions {

@@ -1,12 +1,13 @@
-//! Times of reading, of sizes and of the whole check, the Rust beside ours, and
-//! of edition two beside edition one, in one run.
+//! Times of reading, of sizes and of the whole check, the Rust beside ours, of
+//! edition two beside edition one, and of the head board beside the packed
+//! layout, in one run.
 
 pub mod cases;
 
 use std::hint::black_box;
 use std::time::{Duration, Instant};
 
-use crate::format::{Edition, SLOT_LIMIT};
+use crate::format::{Edition, Entry, SLOT_LIMIT};
 use crate::import::{import, Imported};
 use crate::ir::CompiledSchema;
 use crate::library::{Checker, Library};
@@ -25,7 +26,8 @@ const RUN_TIME: Duration = Duration::from_micros(200);
 /// that they stay near the processor.
 const BATCH_BYTES: usize = 1 << 15;
 
-/// Edition two may take so many times what edition one takes.
+/// Edition two may take so many times what edition one takes, and so may the
+/// head board of the packed layout.
 const BAR: f64 = 1.15;
 
 /// Makes so many calls and tells how long they took.
@@ -100,38 +102,55 @@ fn finding_places(image: &[u8], sizes: &mut [u64], check: Checker) -> usize {
     }
 }
 
-/// Prints a table a task, with a line a case, and one of both editions. Without
-/// a library only the Rust is measured.
-pub fn bench(ours: Option<Library>, ours_two: Option<Library>) {
+/// Prints a table a task, with a line a case, one of both editions and one of
+/// both layouts. Without a library only the Rust is measured.
+pub fn bench(ours: impl Fn(Entry) -> Option<Library>) {
     let cases = cases();
     for task in &TASKS {
         println!(
             "\n{:26}{:>7}{:>13}{:>13}{:>13}{:>9}{:>9}",
             task.name, "bytes", "import, ns", "alone, ns", "ours, ns", "/import", "/alone"
         );
-        cases.iter().for_each(|case| line(task, case, ours));
+        cases
+            .iter()
+            .for_each(|case| line(task, case, ours(Entry::ONE)));
     }
-    if let Some(libraries) = ours.zip(ours_two) {
-        editions(libraries.into());
+    let both = |entry| Some([ours(Entry::ONE)?, ours(entry)?]);
+    if let Some(libraries) = both(Entry::TWO) {
+        ratios("editions", ["one", "two"], &pairs(), libraries);
+    }
+    if let Some(libraries) = both(Entry::ALIGNED) {
+        let twice = |Case { name, image }: Case| Pair {
+            name,
+            images: [image.clone(), image],
+        };
+        let pairs: Vec<Pair> = cases.into_iter().map(twice).collect();
+        ratios("layouts", ["packed", "aligned"], &pairs, libraries);
     }
 }
 
-/// The whole check of the same schemas in both editions.
-fn editions(libraries: [Library; 2]) {
+/// The whole check by two libraries, and how many times the first the second
+/// takes.
+fn ratios(what: &str, names: [&str; 2], pairs: &[Pair], libraries: [Library; 2]) {
+    let [one, two] = names;
     println!(
-        "\n{:26}{:>8}{:>8}{:>13}{:>13}{:>9}",
-        "whole check, editions", "bytes 1", "bytes 2", "one, ns", "two, ns", "two/one"
+        "\n{:26}{:>8}{:>8}{:>13}{:>13}{:>16}",
+        format!("whole check, {what}"),
+        "bytes",
+        "bytes",
+        format!("{one}, ns"),
+        format!("{two}, ns"),
+        format!("{two}/{one}")
     );
-    let pairs = pairs();
-    let ratios = pairs.iter().map(|pair| edition_line(pair, libraries));
+    let ratios = pairs.iter().map(|pair| ratio_line(pair, libraries));
     let ratios: Vec<f64> = ratios.collect();
     let above = ratios.iter().filter(|&&ratio| ratio > BAR).count();
     let largest = ratios.iter().copied().fold(0.0, f64::max);
-    println!("edition two takes {largest:.2} times edition one at most; {above} rows above {BAR}");
+    println!("{two} takes {largest:.2} times {one} at most; {above} rows above {BAR}");
 }
 
 /// Prints a line and answers the ratio.
-fn edition_line(pair: &Pair, libraries: [Library; 2]) -> f64 {
+fn ratio_line(pair: &Pair, libraries: [Library; 2]) -> f64 {
     let [one, two] = &pair.images;
     let works = [one, two].into_iter().zip(libraries);
     let works = works.map(|(image, library)| checked(image, library));
@@ -141,7 +160,7 @@ fn edition_line(pair: &Pair, libraries: [Library; 2]) -> f64 {
     let times = fastest(&mut works);
     let ratio = times[1] / times[0];
     println!(
-        "{:26}{:>8}{:>8}{:>13.0}{:>13.0}{ratio:>9.2}",
+        "{:26}{:>8}{:>8}{:>13.0}{:>13.0}{ratio:>16.2}",
         pair.name,
         one.len(),
         two.len(),

@@ -1,15 +1,26 @@
-//! What edition two adds to the schemas of all families: limits on fields,
-//! retired ordinals and bits.
+//! What becomes of the schemas of all families before they are written: edition
+//! two adds limits on fields, retired ordinals and bits, and for the head board
+//! most sizes are left out.
 
+use super::brought::bring_nothing;
 use super::schemas::ordinal;
 use crate::draft::Draft;
-use crate::format::{Edition, U32_LIMIT};
+use crate::format::{Edition, Entry, Layout, U32_LIMIT};
 use crate::model::{Field, Ordinals, Schema, Slot};
 use crate::random::Random;
 
-/// The image of a schema; in edition two with limits and retired ones drawn
-/// for it.
-pub fn written(random: &mut Random, mut schema: Schema, edition: Edition) -> Draft {
+/// The image of a schema. The head board refuses all that bring a size, so for
+/// it few do.
+pub fn written(random: &mut Random, mut schema: Schema, entry: Entry) -> Draft {
+    if entry.layout == Layout::Aligned && !random.once_in(12) {
+        bring_nothing(&mut schema);
+    }
+    as_it_is(random, schema, entry.edition)
+}
+
+/// The image of a schema with what it brings; in edition two with limits and
+/// retired ones drawn for it.
+pub fn as_it_is(random: &mut Random, mut schema: Schema, edition: Edition) -> Draft {
     if edition == Edition::Two {
         add_to(random, &mut schema);
     }

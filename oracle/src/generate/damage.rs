@@ -6,7 +6,7 @@ use super::additions::written;
 use super::schemas::{schema, Style};
 use super::Emit;
 use crate::draft::{Draft, Number};
-use crate::format::{write_number, Edition, COUNT_LIMIT};
+use crate::format::{write_number, Entry, COUNT_LIMIT};
 use crate::random::Random;
 
 const RICH: Style = Style {
@@ -14,14 +14,14 @@ const RICH: Style = Style {
     stored: true,
 };
 
-fn draft(random: &mut Random, edition: Edition) -> Draft {
+fn draft(random: &mut Random, entry: Entry) -> Draft {
     let schema = schema(random, RICH);
-    written(random, schema, edition)
+    written(random, schema, entry)
 }
 
 /// All beginnings of an image.
-pub fn truncated(random: &mut Random, edition: Edition, emit: Emit<'_>) {
-    let image = draft(random, edition).bytes;
+pub fn truncated(random: &mut Random, entry: Entry, emit: Emit<'_>) {
+    let image = draft(random, entry).bytes;
     for length in 0..image.len().min(400) {
         emit(&image[..length]);
     }
@@ -30,8 +30,8 @@ pub fn truncated(random: &mut Random, edition: Edition, emit: Emit<'_>) {
 }
 
 /// One byte changed, at every place of an image.
-pub fn single_bytes(random: &mut Random, edition: Edition, emit: Emit<'_>) {
-    let mut image = draft(random, edition).bytes;
+pub fn single_bytes(random: &mut Random, entry: Entry, emit: Emit<'_>) {
+    let mut image = draft(random, entry).bytes;
     for at in 0..image.len().min(400) {
         let kept = image[at];
         image[at] = match random.below(7) {
@@ -49,8 +49,8 @@ pub fn single_bytes(random: &mut Random, edition: Edition, emit: Emit<'_>) {
 }
 
 /// A few bytes taken out, put in or put twice.
-pub fn spliced(random: &mut Random, edition: Edition, emit: Emit<'_>) {
-    let mut image = draft(random, edition).bytes;
+pub fn spliced(random: &mut Random, entry: Entry, emit: Emit<'_>) {
+    let mut image = draft(random, entry).bytes;
     for _ in 0..=random.below(3) {
         let at = random.below(image.len() as u64 + 1) as usize;
         let length = random.below(4).min((image.len() - at) as u64) as usize;
@@ -69,16 +69,16 @@ pub fn spliced(random: &mut Random, edition: Edition, emit: Emit<'_>) {
 }
 
 /// The beginning of one image, then the end of another.
-pub fn crossed(random: &mut Random, edition: Edition, emit: Emit<'_>) {
-    let (one, other) = (draft(random, edition).bytes, draft(random, edition).bytes);
+pub fn crossed(random: &mut Random, entry: Entry, emit: Emit<'_>) {
+    let (one, other) = (draft(random, entry).bytes, draft(random, entry).bytes);
     let cut = random.below(one.len() as u64 + 1) as usize;
     let from = random.below(other.len() as u64 + 1) as usize;
     emit(&[&one[..cut], &other[from..]].concat());
 }
 
 /// Bytes after the last declaration.
-pub fn trailing(random: &mut Random, edition: Edition, emit: Emit<'_>) {
-    let mut image = draft(random, edition).bytes;
+pub fn trailing(random: &mut Random, entry: Entry, emit: Emit<'_>) {
+    let mut image = draft(random, entry).bytes;
     for _ in 0..=random.below(4) {
         image.push(random.uneven() as u8);
     }
@@ -86,7 +86,7 @@ pub fn trailing(random: &mut Random, edition: Edition, emit: Emit<'_>) {
 }
 
 /// Short images of random bytes, most of them small.
-pub fn random_bytes(random: &mut Random, _: Edition, emit: Emit<'_>) {
+pub fn random_bytes(random: &mut Random, _: Entry, emit: Emit<'_>) {
     let length = random.below(24);
     let byte = |_| match random.below(6) {
         0 => random.bits() as u8,
@@ -98,8 +98,8 @@ pub fn random_bytes(random: &mut Random, _: Edition, emit: Emit<'_>) {
 }
 
 /// Numbers not in their shortest form, or beyond 64 bits.
-pub fn malformed(random: &mut Random, edition: Edition, emit: Emit<'_>) {
-    let draft = draft(random, edition);
+pub fn malformed(random: &mut Random, entry: Entry, emit: Emit<'_>) {
+    let draft = draft(random, entry);
     for _ in 0..8 {
         let index = random.below(draft.numbers.len() as u64) as usize;
         emit(&malformed_at(random, &draft, index));
@@ -124,8 +124,8 @@ fn malformed_at(random: &mut Random, draft: &Draft, index: usize) -> Vec<u8> {
 }
 
 /// Numbers at their limits, one less and one more, and far beyond.
-pub fn out_of_range(random: &mut Random, edition: Edition, emit: Emit<'_>) {
-    let draft = draft(random, edition);
+pub fn out_of_range(random: &mut Random, entry: Entry, emit: Emit<'_>) {
+    let draft = draft(random, entry);
     for _ in 0..8 {
         let index = random.below(draft.numbers.len() as u64) as usize;
         emit(&out_of_range_at(random, &draft, index));
@@ -147,8 +147,8 @@ fn out_of_range_at(random: &mut Random, draft: &Draft, index: usize) -> Vec<u8> 
 }
 
 /// Numbers that edition two adds, each cut, malformed or out of its range.
-pub fn added(random: &mut Random, edition: Edition, emit: Emit<'_>) {
-    let draft = draft(random, edition);
+pub fn added(random: &mut Random, entry: Entry, emit: Emit<'_>) {
+    let draft = draft(random, entry);
     let mut added: Vec<usize> = (0..draft.numbers.len()).collect();
     added.retain(|&index| draft.numbers[index].added);
     if added.is_empty() {

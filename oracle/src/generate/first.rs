@@ -36,23 +36,23 @@ pub fn by_sum() -> Tree {
     wrap(OPTIONAL, most())
 }
 
-fn result(ok: Tree, err: Tree) -> Tree {
+pub fn result(ok: Tree, err: Tree) -> Tree {
     pair(RESULT, ok, err)
 }
 
-fn vec2(tree: Tree) -> Tree {
+pub fn vec2(tree: Tree) -> Tree {
     wrap(VEC2, tree)
 }
 
-fn optional(tree: Tree) -> Tree {
+pub fn optional(tree: Tree) -> Tree {
     wrap(OPTIONAL, tree)
 }
 
-fn fields(trees: Vec<Tree>) -> Vec<Field> {
+pub fn fields(trees: Vec<Tree>) -> Vec<Field> {
     trees.into_iter().map(|tree| field(0, tree)).collect()
 }
 
-fn variants(lists: Vec<Vec<Tree>>) -> Slot {
+pub fn variants(lists: Vec<Vec<Tree>>) -> Slot {
     union(lists.into_iter().map(fields).collect())
 }
 

@@ -5,12 +5,13 @@ use super::bounds::full_enum;
 use super::schemas::{schema_of, Style};
 use super::trees::{field, Pool};
 use super::Emit;
-use crate::format::{Edition, IMAGE_LIMIT};
+use crate::format::{Edition, Entry, IMAGE_LIMIT};
 use crate::model::{field as plain_field, message, union, Field, Schema, Slot, Tree, U8};
 use crate::random::Random;
 
 /// A full image, then one cut and one changed.
-pub fn full(random: &mut Random, edition: Edition, emit: Emit<'_>) {
+pub fn full(random: &mut Random, entry: Entry, emit: Emit<'_>) {
+    let edition = entry.edition;
     let mut image = match random.below(5) {
         0 => match edition {
             Edition::One => one_message(random, edition).bytes(edition),
@@ -18,13 +19,13 @@ pub fn full(random: &mut Random, edition: Edition, emit: Emit<'_>) {
         },
         1 => {
             let schema = schema_of(random, STYLE, 512);
-            written(random, schema, edition).bytes
+            written(random, schema, entry).bytes
         }
         2 => full_names().bytes(edition),
         3 => full_enum(IMAGE_LIMIT - random.below(3) as usize, edition).bytes(edition),
         _ => {
             let schema = many_variants(random);
-            written(random, schema, edition).bytes
+            written(random, schema, entry).bytes
         }
     };
     emit(&image);

@@ -7,7 +7,8 @@ use crate::model::{
 };
 use crate::random::Random;
 
-const FACTORS: [(u64, u64); 6] = [(10, 2), (11, 3), (12, 4), (13, 4), (14, 9), (15, 16)];
+/// Kinds with one part, and how often it counts.
+pub const FACTORS: [(u64, u64); 6] = [(10, 2), (11, 3), (12, 4), (13, 4), (14, 9), (15, 16)];
 
 /// A message or union whose size comes near the limit.
 pub fn near_limit(random: &mut Random) -> Schema {

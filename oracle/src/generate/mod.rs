@@ -1,11 +1,12 @@
 //! Families of images for comparison, each made from a seed. The families of
 //! both editions draw the same schemas; edition two adds limits and retired ones
-//! to them.
+//! to them. For the head board most schemas bring no sizes.
 
 mod added_bounds;
 mod additions;
 mod both;
 pub mod bounds;
+pub mod brought;
 mod damage;
 pub mod deep;
 pub mod edges;
@@ -17,13 +18,15 @@ pub mod loops;
 mod matches;
 mod near;
 mod nesting;
+mod over;
 mod retired;
+pub mod rounding;
 pub mod schemas;
 mod traits;
 pub mod trees;
 mod turns;
 
-use crate::format::Edition;
+use crate::format::{Edition, Entry, Layout};
 use crate::model::Schema;
 use crate::random::Random;
 use additions::written;
@@ -38,24 +41,45 @@ pub struct Family {
     /// How often it is called, as against the others.
     weight: u64,
     make: Make,
+    /// What it is drawn from for.
+    of: Of,
 }
 
 enum Make {
-    /// A schema, which is then written in an edition.
+    /// A schema, which is then written for an entry.
     Schema(fn(&mut Random) -> Schema),
-    /// Images that are to be read in an edition.
-    Images(fn(&mut Random, Edition, Emit<'_>)),
+    /// Images for an entry.
+    Images(fn(&mut Random, Entry, Emit<'_>)),
+}
+
+#[derive(Clone, Copy, PartialEq, Eq)]
+enum Of {
+    Every,
+    Edition(Edition),
+    Layout(Layout),
 }
 
 impl Family {
-    fn call(&self, random: &mut Random, edition: Edition, emit: Emit<'_>) {
+    fn call(&self, random: &mut Random, entry: Entry, emit: Emit<'_>) {
         match self.make {
             Make::Schema(make) => {
                 let schema = make(random);
-                emit(&written(random, schema, edition).bytes);
+                emit(&written(random, schema, entry).bytes);
             }
-            Make::Images(make) => make(random, edition, emit),
+            Make::Images(make) => make(random, entry, emit),
         }
+    }
+
+    fn is_of(&self, entry: Entry) -> bool {
+        match self.of {
+            Of::Every => true,
+            Of::Edition(edition) => edition == entry.edition,
+            Of::Layout(layout) => layout == entry.layout,
+        }
+    }
+
+    const fn only(self, of: Of) -> Self {
+        Self { of, ..self }
     }
 }
 
@@ -64,20 +88,21 @@ const fn family(name: &'static str, weight: u64, make: fn(&mut Random) -> Schema
         name,
         weight,
         make: Make::Schema(make),
+        of: Of::Every,
     }
 }
 
-const fn images(
-    name: &'static str,
-    weight: u64,
-    make: fn(&mut Random, Edition, Emit<'_>),
-) -> Family {
+const fn images(name: &'static str, weight: u64, make: fn(&mut Random, Entry, Emit<'_>)) -> Family {
     Family {
         name,
         weight,
         make: Make::Images(make),
+        of: Of::Every,
     }
 }
+
+const TWO: Of = Of::Edition(Edition::Two);
+const HEAD_BOARD: Of = Of::Layout(Layout::Aligned);
 
 /// The family of edition two that gives images of edition one.
 pub const FIRST_EDITION: &str = "first-edition";
@@ -112,8 +137,8 @@ pub static FAMILIES: &[Family] = &[
     family("message-loops", 1_000, loops::messages),
     family("doubling", 200, loops::doubling),
     family("chain", 20, loops::chain),
-    images("bounds", 500, |random, edition, emit| {
-        let all = bounds::boundaries(edition);
+    images("bounds", 500, |random, entry, emit| {
+        let all = bounds::boundaries(entry.edition);
         emit(&all[random.below(all.len() as u64) as usize].image);
     }),
     images("truncated", 20, damage::truncated),
@@ -132,30 +157,35 @@ pub static FAMILIES: &[Family] = &[
     family("trait-fields", 2_000, findings::trait_fields),
     family("many-findings", 20, findings::many),
     family("matches", 2_000, matches::matches),
-    images("added-numbers", 250, damage::added),
-    images("retired", 160, retired::retired),
+    images("added-numbers", 250, damage::added).only(TWO),
+    images("retired", 160, retired::retired).only(TWO),
     images("both-editions", 600, |random, _, emit| {
         emit(&both::both(random).bytes(Edition::One));
-    }),
-    images(FIRST_EDITION, 2_000, |random, _, emit| {
-        let family = drawn(random, in_edition(Edition::One));
-        FAMILIES[family].call(random, Edition::One, emit);
-    }),
+    })
+    .only(TWO),
+    images(FIRST_EDITION, 2_000, |random, entry, emit| {
+        let first = Entry {
+            edition: Edition::One,
+            ..entry
+        };
+        let family = drawn(random, families(first));
+        FAMILIES[family].call(random, first, emit);
+    })
+    .only(TWO),
+    family("bits-over", 3_000, over::bits_over).only(HEAD_BOARD),
+    family("rounding", 2_500, rounding::rounded).only(HEAD_BOARD),
+    images("brought", 2_000, brought::brought).only(HEAD_BOARD),
 ];
 
 /// The first families, which the recorded answers of reading are drawn from:
 /// they stay as they are, or the recorded images change.
 const READING: usize = 20;
 
-/// The families of edition one; those after them are of edition two alone.
-const OF_EDITION_ONE: usize = 27;
-
-/// The families that are drawn from for an edition.
-pub fn in_edition(edition: Edition) -> &'static [Family] {
-    match edition {
-        Edition::One => &FAMILIES[..OF_EDITION_ONE],
-        Edition::Two => FAMILIES,
-    }
+/// The families that are drawn from for an entry, with their numbers. Those of
+/// the packed layout of edition one stay as they are too.
+pub fn families(entry: Entry) -> impl Iterator<Item = (usize, &'static Family)> + Clone {
+    let all = FAMILIES.iter().enumerate();
+    all.filter(move |(_, family)| family.is_of(entry))
 }
 
 /// Which families images are drawn from.
@@ -168,43 +198,47 @@ pub enum Families {
     Without(usize),
 }
 
-/// The family of this name, if the edition has it.
-pub fn family_named(name: &str, edition: Edition) -> Option<usize> {
-    let mut families = in_edition(edition).iter();
-    families.position(|family| family.name == name)
+/// The family of this name, if the entry has it.
+pub fn family_named(name: &str, entry: Entry) -> Option<usize> {
+    let mut families = families(entry);
+    let (number, _) = families.find(|(_, family)| family.name == name)?;
+    Some(number)
 }
 
 /// The images of one batch, which is told by its seed and number, the families
-/// and the edition alone. Its family is drawn by weight.
+/// and the entry alone. Its family is drawn by weight.
 pub fn batch(
     seed: u64,
     number: u64,
-    families: Families,
-    edition: Edition,
+    which: Families,
+    entry: Entry,
     mut emit: impl FnMut(usize, &[u8]),
 ) {
     let mut random = Random::new(seed, number);
-    let all = in_edition(edition);
-    let family = match families {
+    let all = families(entry);
+    let family = match which {
         Families::One(family) => family,
-        Families::Reading => drawn(&mut random, &FAMILIES[..READING]),
+        Families::Reading => drawn(&mut random, all.take(READING)),
         Families::All => drawn(&mut random, all),
         Families::Without(left_out) => loop {
-            let family = drawn(&mut random, all);
+            let family = drawn(&mut random, all.clone());
             if family != left_out {
                 break family;
             }
         },
     };
-    FAMILIES[family].call(&mut random, edition, &mut |image| emit(family, image));
+    FAMILIES[family].call(&mut random, entry, &mut |image| emit(family, image));
 }
 
-fn drawn(random: &mut Random, families: &[Family]) -> usize {
-    let total = families.iter().map(|family| family.weight).sum();
+fn drawn(
+    random: &mut Random,
+    families: impl Iterator<Item = (usize, &'static Family)> + Clone,
+) -> usize {
+    let total = families.clone().map(|(_, family)| family.weight).sum();
     let mut left = random.below(total);
-    for (index, family) in families.iter().enumerate() {
+    for (number, family) in families {
         if left < family.weight {
-            return index;
+            return number;
         }
         left -= family.weight;
     }

@@ -4,7 +4,7 @@
 use super::schemas::{ordinal, ordinals};
 use super::Emit;
 use crate::draft::Draft;
-use crate::format::{Edition, IMAGE_LIMIT};
+use crate::format::{Entry, IMAGE_LIMIT};
 use crate::model::{declared, Ordinals, Slot};
 use crate::random::Random;
 
@@ -17,7 +17,7 @@ const COUNTS: [u64; 14] = [
 
 /// The same list in an enum and in flags: whole, as much of it as an image may
 /// have, and a few of it.
-pub fn retired(random: &mut Random, edition: Edition, emit: Emit<'_>) {
+pub fn retired(random: &mut Random, entry: Entry, emit: Emit<'_>) {
     let list = list(random);
     let enumeration = Slot::Enum {
         backing: random.below(5),
@@ -30,7 +30,7 @@ pub fn retired(random: &mut Random, edition: Edition, emit: Emit<'_>) {
         bits: list,
     };
     for slot in [enumeration, flags] {
-        let draft = Draft::new(&declared(vec![], vec![slot]), edition);
+        let draft = Draft::new(&declared(vec![], vec![slot]), entry.edition);
         let image = &draft.bytes;
         emit(image);
         if image.len() > IMAGE_LIMIT {

@@ -56,10 +56,7 @@ pub struct Imported {
 
 /// Reads an image; the lowest refusal wins.
 pub fn import(image: &[u8], edition: Edition) -> Result<Imported, Refusal> {
-    if image.len() > IMAGE_LIMIT {
-        return refuse(1, 0);
-    }
-    let imported = read_whole(image, edition)?;
+    let imported = read(image, edition)?;
     check_names(&imported)?;
     if let Some(slot) = loops::newtype_on_loop(&imported.schema.registry) {
         return refuse(8, slot as u64);
@@ -68,6 +65,14 @@ pub fn import(image: &[u8], edition: Edition) -> Result<Imported, Refusal> {
         return refuse(9, slot as u64);
     }
     Ok(imported)
+}
+
+/// Reads an image up to its end, refusals 1 to 6.
+pub fn read(image: &[u8], edition: Edition) -> Result<Imported, Refusal> {
+    if image.len() > IMAGE_LIMIT {
+        return refuse(1, 0);
+    }
+    read_whole(image, edition)
 }
 
 /// The text that stands for a name number. It has a dot in it, so that a

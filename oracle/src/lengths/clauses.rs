@@ -6,7 +6,9 @@ use std::fmt;
 use super::parts::leading_back;
 use super::rules::lengths_of_slots;
 use super::set::{Lengths, HORIZON};
-use super::turns::{brought, last_turns, LastTurns};
+use super::turns::{last_turns, LastTurns};
+use crate::answer::brought;
+use crate::format::Layout;
 use crate::ir::{CompiledSchema, TypeDef, WireSize};
 
 #[derive(Debug, Clone, Copy, PartialEq, Eq)]
@@ -190,7 +192,8 @@ impl fmt::Display for Violation {
     }
 }
 
-/// What the lengths, parts and turns of an image say; no table is needed.
+/// What the lengths, parts and turns of an image say in a layout; no table is
+/// needed.
 pub struct Facts {
     pub lengths: Vec<Lengths>,
     /// Per slot, whether what it is made of leads back.
@@ -204,15 +207,15 @@ pub struct Facts {
 }
 
 impl Facts {
-    pub fn of(schema: &CompiledSchema) -> Self {
-        let lengths = lengths_of_slots(schema);
+    pub fn of(schema: &CompiledSchema, layout: Layout) -> Self {
+        let lengths = lengths_of_slots(schema, layout);
         let mut facts = Self {
             back: leading_back(schema),
             slots: turned(schema),
             enclosing: Truth::Yes,
             ordered: true,
             none_brought: true,
-            last_turns: last_turns(schema),
+            last_turns: last_turns(schema, layout),
             lengths,
         };
         for slot in 0..schema.registry.len() {

@@ -1,8 +1,9 @@
 //! Demand 3 tried by enumeration: the lengths of small schemas, by the length
-//! rules of document 01 and never from sizes, beside the rows of size tables.
+//! rules of document 01 and never from sizes, beside the rows of size tables. On
+//! the head board both are rounded, and no sizes are brought.
 
 pub mod clauses;
-mod parts;
+pub(crate) mod parts;
 pub mod rules;
 pub mod set;
 pub mod small;
@@ -13,7 +14,8 @@ use std::ops::ControlFlow;
 
 use crate::answer::{Answer, Whole, PROGRAM_PLACES};
 use crate::compare::{each_image, Selection};
-use crate::format::Edition;
+use crate::format::{Edition, Entry, Layout};
+use crate::generate::brought::bring_nothing;
 use crate::generate::Families;
 use crate::import::{import, Imported};
 use crate::ir::{CompiledSchema, Encoding, FieldDef, ResolvedType, TypeDef};
@@ -23,6 +25,7 @@ use crate::random::Random;
 use crate::shrink::shrink;
 use crate::workers::{in_parallel, THREADS};
 use clauses::{Clause, Facts, Proviso, Tally};
+use rules::lengths_of_slots;
 
 /// Images of the families are taken up to these.
 const MOST_BYTES: usize = 120;
@@ -43,20 +46,29 @@ pub struct Subject {
 /// refuses it.
 #[derive(Clone, Copy)]
 pub enum Table {
-    Rust,
+    Rust(Layout),
     Sizes(Library),
     Check(Library),
+}
+
+/// The entry of a layout; lengths are those of edition one.
+fn entry(layout: Layout) -> Entry {
+    Entry {
+        edition: Edition::One,
+        layout,
+    }
 }
 
 impl Table {
     fn of(self, image: &[u8], slots: usize) -> Option<Vec<u64>> {
         let mut sizes = vec![0; 3 * slots];
         let verdict = match self {
-            Table::Rust => {
-                return match Whole::sizes_of(image, Edition::One).sizes_answer(3 * slots as u64) {
+            Table::Rust(layout) => {
+                let whole = Whole::sizes_of(image, entry(layout));
+                return match whole.sizes_answer(3 * slots as u64) {
                     Ok(Answer::Accepted { sizes, .. }) => Some(sizes),
                     _ => None,
-                }
+                };
             }
             Table::Sizes(library) => {
                 let size = library.sizes.expect("a subject only if there is one");
@@ -72,12 +84,17 @@ impl Table {
     }
 }
 
-/// The Rust, and both entries of the library that fill a size table.
-pub fn subjects(ours: Option<Library>) -> Vec<Subject> {
+/// The Rust, and the entries of the library that fill a size table of the
+/// layout.
+pub fn subjects(layout: Layout, ours: Option<Library>) -> Vec<Subject> {
     let mut subjects = vec![Subject {
         name: "Rust",
-        table: Table::Rust,
+        table: Table::Rust(layout),
     }];
+    let check_name = match layout {
+        Layout::Packed => "vexil_check",
+        Layout::Aligned => "vexil_check_aligned",
+    };
     if let Some(ours) = ours {
         let sizes = ours.sizes.map(|_| Table::Sizes(ours));
         subjects.extend(sizes.map(|table| Subject {
@@ -86,7 +103,7 @@ pub fn subjects(ours: Option<Library>) -> Vec<Subject> {
         }));
         let check = ours.check.map(|_| Table::Check(ours));
         subjects.extend(check.map(|table| Subject {
-            name: "vexil_check",
+            name: check_name,
             table,
         }));
     }
@@ -111,6 +128,8 @@ pub struct Met {
     pub without: u64,
     /// Declared messages whose fields are all Fixed at their last turn.
     pub fixed: u64,
+    /// Declared messages and unions that have other lengths packed.
+    pub rounded: u64,
     pub kinds: [u64; KINDS],
     pub encodings: [u64; ENCODINGS],
 }
@@ -142,12 +161,12 @@ pub struct Summary {
 
 /// Judges the tables of generated small schemas, as many as `count`, and of the
 /// small images among as many of the families.
-pub fn run(count: u64, seed: u64, subjects: &[Subject]) -> Summary {
+pub fn run(count: u64, seed: u64, layout: Layout, subjects: &[Subject]) -> Summary {
     let parts = in_parallel(|worker| {
         let mut summary = Summary::of(subjects);
         for number in (worker..count).step_by(THREADS as usize) {
-            let image = schema(seed, number).bytes(Edition::One);
-            let flow = run_one(&image, subjects, &mut summary.small);
+            let image = schema(seed, number, layout).bytes(Edition::One);
+            let flow = run_one(&image, layout, subjects, &mut summary.small);
             if let ControlFlow::Break(broken) = flow {
                 summary.broken = Some(broken);
                 return summary;
@@ -157,13 +176,13 @@ pub fn run(count: u64, seed: u64, subjects: &[Subject]) -> Summary {
             count,
             seed,
             families: Families::All,
-            edition: Edition::One,
+            entry: entry(layout),
         };
         each_image(selection, worker, |_, image| {
             if image.len() > MOST_BYTES {
                 return ControlFlow::Continue(());
             }
-            let flow = run_one(image, subjects, &mut summary.families);
+            let flow = run_one(image, layout, subjects, &mut summary.families);
             flow.map_break(|broken| summary.broken = Some(broken))
         });
         summary
@@ -177,21 +196,33 @@ pub fn run(count: u64, seed: u64, subjects: &[Subject]) -> Summary {
     all
 }
 
-/// The schema of this number.
-pub fn schema(seed: u64, number: u64) -> Schema {
-    small::small(&mut Random::new(seed, number))
+/// The schema of this number. The head board takes none that brings sizes.
+pub fn schema(seed: u64, number: u64, layout: Layout) -> Schema {
+    let mut schema = small::small(&mut Random::new(seed, number));
+    if layout == Layout::Aligned {
+        bring_nothing(&mut schema);
+    }
+    schema
 }
 
-fn run_one(image: &[u8], subjects: &[Subject], part: &mut Part) -> ControlFlow<Broken> {
-    let Some(imported) = accepted(image) else {
+fn run_one(
+    image: &[u8],
+    layout: Layout,
+    subjects: &[Subject],
+    part: &mut Part,
+) -> ControlFlow<Broken> {
+    let Some(imported) = accepted(image, layout) else {
         return ControlFlow::Continue(());
     };
-    let facts = Facts::of(&imported.schema);
+    let facts = Facts::of(&imported.schema, layout);
     part.met.count(&imported.schema, &facts);
+    if layout == Layout::Aligned {
+        part.met.count_rounded(&imported.schema, &facts);
+    }
     for (subject, (_, tally)) in subjects.iter().zip(&mut part.tallies) {
         let slots = imported.starts.len();
         if let Some(told) = told(image, &facts, subject, slots, tally) {
-            return ControlFlow::Break(smallest(image, told, subject));
+            return ControlFlow::Break(smallest(image, layout, told, subject));
         }
     }
     ControlFlow::Continue(())
@@ -225,7 +256,7 @@ impl Summary {
 
     /// Counts that are too low for the run to mean much, with what they ought
     /// to be at least.
-    pub fn too_low(&self, count: u64) -> Vec<String> {
+    pub fn too_low(&self, count: u64, layout: Layout) -> Vec<String> {
         let mut low = Vec::new();
         let mut floor = |what: String, met: u64, one_in: u64| {
             let least = (count / one_in).max(1);
@@ -235,7 +266,7 @@ impl Summary {
         };
         let others = self.families.met.schemas;
         floor("images of families".into(), others, 10);
-        for (what, met, one_in) in self.small.met.floors() {
+        for (what, met, one_in) in self.small.met.floors(layout) {
             floor(what, met, one_in);
         }
         for (subject, tally) in &self.small.tallies {
@@ -245,7 +276,7 @@ impl Summary {
                 let what = format!("{subject}, {clause:?}, within the horizon");
                 floor(what, if known { count } else { 0 }, 1);
             }
-            for (proviso, one_in) in Proviso::ALL.into_iter().zip(NEEDED) {
+            for &(proviso, one_in) in needed(layout) {
                 let needed = tally.needed[proviso as usize];
                 floor(format!("{subject}, {proviso:?} needed"), needed, one_in);
             }
@@ -257,10 +288,23 @@ impl Summary {
 /// A clause has to hold, its provisos met, once in so many schemas; in the
 /// order of `Clause::ALL`.
 const HELD: [u64; Clause::ALL.len()] = [1, 2, 2, 4, 2];
-/// A proviso has to be needed once in so many, in the order of `Proviso::ALL`.
-const NEEDED: [u64; Proviso::ALL.len()] = [200, 800, 50, 25];
 /// At most one in so many may hang on lengths past the horizon.
 const MOST_PAST: u64 = 100;
+
+/// Provisos that have to be needed once in so many schemas. On the head board
+/// no sizes are brought, and those about them are always met.
+fn needed(layout: Layout) -> &'static [(Proviso, u64)] {
+    let all = &[
+        (Proviso::NotBack, 25),
+        (Proviso::NoneBrought, 50),
+        (Proviso::Enclosing, 200),
+        (Proviso::Ordered, 800),
+    ];
+    match layout {
+        Layout::Packed => all,
+        Layout::Aligned => &all[..1],
+    }
+}
 
 impl Met {
     fn count(&mut self, schema: &CompiledSchema, facts: &Facts) {
@@ -287,6 +331,13 @@ impl Met {
         let sums = facts.last_turns.sums.iter();
         self.fixed += sums.filter(|sum| matches!(sum, Some(Some(_)))).count() as u64;
         self.count_types(schema, facts);
+    }
+
+    fn count_rounded(&mut self, schema: &CompiledSchema, facts: &Facts) {
+        let packed = lengths_of_slots(schema, Layout::Packed);
+        let slots = facts.slots.iter();
+        let rounded = slots.filter(|&&slot| facts.lengths[slot] != packed[slot]);
+        self.rounded += rounded.count() as u64;
     }
 
     fn count_types(&mut self, schema: &CompiledSchema, facts: &Facts) {
@@ -342,18 +393,24 @@ impl Met {
     }
 
     /// What is counted, and once in how many schemas it has to be met.
-    fn floors(&self) -> Vec<(String, u64, u64)> {
+    fn floors(&self, layout: Layout) -> Vec<(String, u64, u64)> {
         let mut floors = vec![
             ("schemas".into(), self.schemas, 1),
-            ("bring sizes".into(), self.brings, 5),
-            ("bring trusted sizes".into(), self.trusted, 10),
             ("lead back".into(), self.back, 10),
             ("declare again".into(), self.repeated, 10),
-            ("Fixed by the last turn".into(), self.moved, 200),
             ("declare nothing".into(), self.dangling, 10),
             ("without lengths".into(), self.without, 20),
             ("Fixed messages".into(), self.fixed, 5),
         ];
+        match layout {
+            // Without sizes that are brought no turn changes what is Fixed.
+            Layout::Packed => floors.extend([
+                ("bring sizes".into(), self.brings, 5),
+                ("bring trusted sizes".into(), self.trusted, 10),
+                ("Fixed by the last turn".into(), self.moved, 200),
+            ]),
+            Layout::Aligned => floors.push(("rounded".into(), self.rounded, 2)),
+        }
         for (kind, &count) in self.kinds.iter().enumerate() {
             floors.push((format!("type kind {kind}"), count, 50));
         }
@@ -375,6 +432,7 @@ impl Met {
             (&mut self.dangling, other.dangling),
             (&mut self.without, other.without),
             (&mut self.fixed, other.fixed),
+            (&mut self.rounded, other.rounded),
         ];
         pairs.into_iter().for_each(|(count, more)| *count += more);
         let kinds = self.kinds.iter_mut().zip(other.kinds);
@@ -384,12 +442,12 @@ impl Met {
 }
 
 /// The image as imported, if the Rust accepts it and does not take too long.
-fn accepted(image: &[u8]) -> Option<Imported> {
+fn accepted(image: &[u8], layout: Layout) -> Option<Imported> {
     let imported = import(image, Edition::One).ok()?;
     if imported.starts.len() > MOST_SLOTS {
         return None;
     }
-    Table::Rust.of(image, imported.starts.len())?;
+    Table::Rust(layout).of(image, imported.starts.len())?;
     Some(imported)
 }
 
@@ -408,17 +466,17 @@ fn told(
 }
 
 /// The smallest image found on which a clause is broken, the first one at least.
-fn smallest(image: &[u8], told_first: String, subject: &Subject) -> Broken {
+fn smallest(image: &[u8], layout: Layout, told_first: String, subject: &Subject) -> Broken {
     let mut smallest = Broken {
         subject: subject.name,
         image: image.to_vec(),
         told: told_first,
     };
     shrink(image, &mut |tried| {
-        let Some(imported) = accepted(tried) else {
+        let Some(imported) = accepted(tried, layout) else {
             return false;
         };
-        let facts = Facts::of(&imported.schema);
+        let facts = Facts::of(&imported.schema, layout);
         let slots = imported.starts.len();
         let Some(told) = told(tried, &facts, subject, slots, &mut Tally::default()) else {
             return false;
@@ -441,7 +499,7 @@ impl fmt::Display for Part {
     fn fmt(&self, out: &mut fmt::Formatter<'_>) -> fmt::Result {
         writeln!(out, "{}", self.met)?;
         for (subject, tally) in &self.tallies {
-            write!(out, "{subject:12}")?;
+            write!(out, "{subject:20}")?;
             for (at, clause) in Clause::ALL.into_iter().enumerate() {
                 let (held, idle, past) = (tally.held[at], tally.idle[at], tally.unknown[at]);
                 write!(out, " {clause:?} {held} ({idle}, {past})")?;
@@ -462,11 +520,12 @@ impl fmt::Display for Met {
         write!(
             out,
             "{schemas}, with {slots} declared messages and unions, {} of them Fixed, {} without \
-             lengths; bring sizes {} (trusted {}), lead back {}, declare again {} (Fixed by the last \
+             lengths, {} rounded; bring sizes {} (trusted {}), lead back {}, declare again {} (Fixed by the last \
              turn {}), declare nothing {}; \
              type kinds {:?}, encodings {:?}",
             self.fixed,
             self.without,
+            self.rounded,
             self.brings,
             self.trusted,
             self.back,

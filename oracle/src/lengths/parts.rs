@@ -15,7 +15,7 @@ pub fn leading_back(schema: &CompiledSchema) -> Vec<bool> {
 }
 
 /// The slots reached from a slot's parts, by one step or more.
-fn reached(schema: &CompiledSchema, slot: usize) -> Vec<bool> {
+pub fn reached(schema: &CompiledSchema, slot: usize) -> Vec<bool> {
     let mut reached = vec![false; schema.registry.len()];
     let mut open = parts_of(schema, slot);
     while let Some(part) = open.pop() {

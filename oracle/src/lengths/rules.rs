@@ -1,17 +1,20 @@
-//! The lengths of values, by the length rules of document 01 alone. Values are
-//! finite, so the lengths of all slots are the least sets that the rules keep.
+//! The lengths of values, by the length rules of document 01 alone, and by what
+//! document 02 adds for the head board. Values are finite, so the lengths of all
+//! slots are the least sets that the rules keep.
 
 use super::parts::parts_of;
 use super::set::Lengths;
 use crate::answer::widths::{enum_bits, flags_bytes, primitive_bits};
 use crate::ast::{PrimitiveType, SemanticType};
+use crate::format::Layout;
 use crate::ir::{CompiledSchema, Encoding, FieldDef, ResolvedType, TypeDef, TypeId};
 
 /// The lengths of each slot's values.
-pub fn lengths_of_slots(schema: &CompiledSchema) -> Vec<Lengths> {
+pub fn lengths_of_slots(schema: &CompiledSchema, layout: Layout) -> Vec<Lengths> {
     let slots = schema.registry.len();
     let mut rules = Rules {
         schema,
+        layout,
         declared: declared(schema),
         slots: vec![Lengths::NONE; slots],
     };
@@ -53,6 +56,7 @@ pub fn innermost(field: &FieldDef) -> &Encoding {
 
 struct Rules<'a> {
     schema: &'a CompiledSchema,
+    layout: Layout,
     declared: Vec<bool>,
     /// What the rules have reached so far.
     slots: Vec<Lengths>,
@@ -83,8 +87,16 @@ impl Rules<'_> {
     }
 
     fn of_fields(&self, fields: &[FieldDef]) -> Lengths {
-        let lengths = fields.iter().map(|field| self.of_field(field));
+        let lengths = fields.iter().map(|field| self.laid(self.of_field(field)));
         lengths.fold(Lengths::one(0), |sum, one| sum.plus(&one))
+    }
+
+    /// A field's lengths with what is left free behind it.
+    fn laid(&self, lengths: Lengths) -> Lengths {
+        match self.layout {
+            Layout::Packed => lengths,
+            Layout::Aligned => lengths.in_bytes(),
+        }
     }
 
     /// An encoding governs only the field's own type.

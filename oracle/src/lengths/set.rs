@@ -80,6 +80,14 @@ impl Lengths {
         set
     }
 
+    /// Each length up to a multiple of 8, which the horizon is too.
+    pub fn in_bytes(&self) -> Self {
+        let whole = self.below_horizon().map(|bits| bits.next_multiple_of(8));
+        let mut set: Self = whole.collect();
+        set.beyond |= self.beyond;
+        set
+    }
+
     /// A length of this set and one of the other together.
     pub fn plus(&self, other: &Self) -> Self {
         let (mine, others) = (self.runs(), other.runs());

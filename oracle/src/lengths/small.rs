@@ -4,7 +4,7 @@
 
 use super::rules::lengths_of_slots;
 use super::set::Lengths;
-use crate::format::Edition;
+use crate::format::{Edition, Layout};
 use crate::generate::trees::{encoding, WRAPS};
 use crate::import::import;
 use crate::model::{
@@ -208,7 +208,8 @@ fn leaf(random: &mut Random, top: bool, named: &[u64]) -> Tree {
     }
 }
 
-/// Lengths do not hang on sizes, so they can be had beforehand. Some slots are
+/// Lengths do not hang on sizes, so they can be had beforehand; only the packed
+/// layout takes sizes that are brought. Some slots are
 /// named once more, one without lengths among them, and a slot that brings a
 /// size is often not declared, so that the size is used.
 fn bring_sizes(random: &mut Random, brings: Brings, schema: &mut Schema) {
@@ -223,7 +224,7 @@ fn bring_sizes(random: &mut Random, brings: Brings, schema: &mut Schema) {
     let Ok(imported) = import(&schema.bytes(Edition::One), Edition::One) else {
         return;
     };
-    let lengths = lengths_of_slots(&imported.schema);
+    let lengths = lengths_of_slots(&imported.schema, Layout::Packed);
     for (id, lengths) in lengths.iter().enumerate() {
         let (Slot::Message { stored, .. } | Slot::Union { stored, .. }) = &mut schema.slots[id]
         else {

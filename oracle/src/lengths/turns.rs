@@ -3,8 +3,10 @@
 //! of sizes is worked out here.
 
 use super::rules::{declared, innermost};
+use crate::answer::brought;
 use crate::answer::widths::{enum_bits, flags_bytes, primitive_bits};
 use crate::ast::SemanticType;
+use crate::format::Layout;
 use crate::ir::{CompiledSchema, Encoding, FieldDef, ResolvedType, TypeDef, TypeId, WireSize};
 
 /// The bits of a size that is Fixed; none of any other.
@@ -19,8 +21,8 @@ pub struct LastTurns {
     pub moved: bool,
 }
 
-pub fn last_turns(schema: &CompiledSchema) -> LastTurns {
-    let mut turns = Turns::new(schema);
+pub fn last_turns(schema: &CompiledSchema, layout: Layout) -> LastTurns {
+    let mut turns = Turns::new(schema, layout);
     let mut last = LastTurns {
         sums: vec![None; schema.registry.len()],
         moved: false,
@@ -44,6 +46,7 @@ pub fn last_turns(schema: &CompiledSchema) -> LastTurns {
 
 struct Turns<'a> {
     schema: &'a CompiledSchema,
+    layout: Layout,
     declared: Vec<bool>,
     /// The sizes stored at this turn: of the latest earlier turn, else brought.
     stored: Vec<Option<Fixed>>,
@@ -51,11 +54,12 @@ struct Turns<'a> {
 }
 
 impl<'a> Turns<'a> {
-    fn new(schema: &'a CompiledSchema) -> Self {
+    fn new(schema: &'a CompiledSchema, layout: Layout) -> Self {
         let slots = schema.registry.len();
         let brought = (0..slots).map(|slot| brought(schema, slot).map(fixed_bits));
         Self {
             schema,
+            layout,
             declared: declared(schema),
             stored: brought.collect(),
             working: vec![false; slots],
@@ -74,10 +78,15 @@ impl<'a> Turns<'a> {
         sum
     }
 
+    /// As it is added: on the head board in whole bytes.
     fn of_field(&mut self, field: &FieldDef) -> Fixed {
-        match innermost(field) {
+        let bits = match innermost(field) {
             Encoding::Varint | Encoding::ZigZag => None,
             _ => self.of_type(&field.resolved_type),
+        };
+        match self.layout {
+            Layout::Packed => bits,
+            Layout::Aligned => bits.map(|bits| bits.next_multiple_of(8)),
         }
     }
 
@@ -128,15 +137,6 @@ impl<'a> Turns<'a> {
             TypeDef::Union(_) => self.stored[slot].flatten(),
             _ => None,
         }
-    }
-}
-
-/// The size that the image brings for a message or union.
-pub fn brought(schema: &CompiledSchema, slot: usize) -> Option<&WireSize> {
-    match schema.registry.get(TypeId(slot as u32))? {
-        TypeDef::Message(message) => message.wire_size.as_ref(),
-        TypeDef::Union(un) => un.wire_size.as_ref(),
-        _ => None,
     }
 }
 

@@ -1,15 +1,19 @@
 //! Sizes by the rules of document 01 with one rule made wrong, so that it is
-//! known what the enumerated lengths find. For small schemas only.
+//! known what the enumerated lengths find, and the comparison of the head board.
+//! For sizes that are not refused.
 
+use oracle::format::Layout;
 use oracle::model::{Field, Schema, Slot, Stored, Tree, ARRAY, MAP, OPTIONAL, SET};
 
 macro_rules! cases {
-    ($($case:ident)*) => {
+    ($($case:ident)* ; $($rounding:ident)*) => {
         #[derive(Debug, Clone, Copy, PartialEq, Eq)]
-        pub enum Wrong { $($case),* }
+        pub enum Wrong { $($case,)* $($rounding),* }
 
         impl Wrong {
             pub const ALL: &[Wrong] = &[$(Wrong::$case),*];
+            /// Wrong on the head board alone.
+            pub const OF_ROUNDING: &[Wrong] = &[$(Wrong::$rounding),*];
         }
     };
 }
@@ -31,6 +35,10 @@ cases! {
     FirstTurnKept SmallestLess SmallestMore LargestLess LargestMore OpenCut StoredKept RowOfNone
     // Against the rules of 01, but not against demand 3.
     FixedArrayHasLargest LargestLost WorkingFromByte
+    ;
+    NotRounded SmallestNotRounded LargestNotRounded RoundedDown RoundedToNext RoundedToTwoBytes
+    FixedNotRounded VariableNotRounded VariantsNotRounded NestedNotRounded LastNotRounded
+    TotalsRounded PartsRounded NewtypesRounded EqualEndsFixed
 }
 
 /// Wrong, and yet demand 3 holds; the comparison with the Rust tells these. A
@@ -45,18 +53,18 @@ pub const NOT_ASKED: [Wrong; 3] = [
 #[derive(Clone, Copy, PartialEq, Eq)]
 struct Size {
     fixed: bool,
-    least: u64,
-    most: Option<u64>,
+    least: u128,
+    most: Option<u128>,
 }
 
-fn fixed(bits: u64) -> Size {
+fn fixed(bits: u128) -> Size {
     Size {
         fixed: true,
         ..between(bits, Some(bits))
     }
 }
 
-fn between(least: u64, most: Option<u64>) -> Size {
+fn between(least: u128, most: Option<u128>) -> Size {
     Size {
         fixed: false,
         least,
@@ -65,10 +73,11 @@ fn between(least: u64, most: Option<u64>) -> Size {
 }
 
 /// The size table, with one rule made wrong.
-pub fn table(schema: &Schema, wrong: Wrong) -> Vec<u64> {
+pub fn table(schema: &Schema, layout: Layout, wrong: Wrong) -> Vec<u64> {
     let slots = schema.slots.len();
     let mut sizes = Sizes {
         schema,
+        layout,
         wrong,
         stored: schema.slots.iter().map(brought).collect(),
         working: vec![false; slots],
@@ -90,8 +99,8 @@ pub fn table(schema: &Schema, wrong: Wrong) -> Vec<u64> {
         }
     }
     let rows = (0..slots).map(|slot| match &schema.slots[slot] {
-        Slot::Enum { .. } => [4, sizes.enum_bits(slot), 0],
-        Slot::Flags { .. } => [5, sizes.flags_bytes(slot), 0],
+        Slot::Enum { .. } => [4, sizes.enum_bits(slot) as u64, 0],
+        Slot::Flags { .. } => [5, sizes.flags_bytes(slot) as u64, 0],
         _ => match sizes.stored[slot] {
             None => [0, 0, 0],
             Some(size) if turned[slot] => sizes.row(size),
@@ -102,10 +111,11 @@ pub fn table(schema: &Schema, wrong: Wrong) -> Vec<u64> {
 }
 
 fn row(size: Size) -> [u64; 3] {
+    let least = size.least as u64;
     match size.most {
-        Some(most) if size.fixed => [1, size.least, most],
-        Some(most) => [2, size.least, most],
-        None => [3, size.least, 0],
+        Some(most) if size.fixed => [1, least, most as u64],
+        Some(most) => [2, least, most as u64],
+        None => [3, least, 0],
     }
 }
 
@@ -113,9 +123,9 @@ fn brought(slot: &Slot) -> Option<Size> {
     match slot {
         Slot::Message { stored, .. } | Slot::Union { stored, .. } => match *stored {
             Stored::None => None,
-            Stored::Fixed(bits) => Some(fixed(bits)),
-            Stored::Open(least) => Some(between(least, None)),
-            Stored::Bounded(least, most) => Some(between(least, Some(most))),
+            Stored::Fixed(bits) => Some(fixed(bits.into())),
+            Stored::Open(least) => Some(between(least.into(), None)),
+            Stored::Bounded(least, most) => Some(between(least.into(), Some(most.into()))),
         },
         _ => None,
     }
@@ -123,6 +133,7 @@ fn brought(slot: &Slot) -> Option<Size> {
 
 struct Sizes<'a> {
     schema: &'a Schema,
+    layout: Layout,
     wrong: Wrong,
     stored: Vec<Option<Size>>,
     working: Vec<bool>,
@@ -165,7 +176,7 @@ impl Sizes<'_> {
             Slot::Message { fields, .. } if fields.is_empty() => {
                 fixed(self.unless(Wrong::EmptyMessageIsByte, 0, 8))
             }
-            Slot::Message { fields, .. } => self.total(fields),
+            Slot::Message { fields, .. } => self.total(fields, false),
             Slot::Union { variants, .. } => self.extremes(variants),
             _ => unreachable!("only messages and unions are worked out"),
         };
@@ -173,11 +184,15 @@ impl Sizes<'_> {
         size
     }
 
-    fn total(&mut self, fields: &[Field]) -> Size {
+    fn total(&mut self, fields: &[Field], in_variant: bool) -> Size {
         let mut total = fixed(0);
         let kept = fields.len() - usize::from(self.is(Wrong::LastFieldLost) && fields.len() > 1);
-        for field in &fields[..kept] {
+        for (left, field) in (0..kept).rev().zip(fields) {
             let size = self.field(field);
+            let size = match self.is_laid(size, left == 0, in_variant) {
+                true => self.laid(size),
+                false => size,
+            };
             total.least += size.least;
             total.most = match (total.most, size.most) {
                 (Some(total), Some(most)) => Some(total + most),
@@ -186,7 +201,49 @@ impl Sizes<'_> {
             };
             total.fixed &= size.fixed;
         }
-        total
+        match self.is(Wrong::TotalsRounded) {
+            true => self.laid(total),
+            false => total,
+        }
+    }
+
+    /// Whether a field's size is rounded.
+    fn is_laid(&self, size: Size, last: bool, in_variant: bool) -> bool {
+        let not = match self.wrong {
+            Wrong::NotRounded | Wrong::TotalsRounded => true,
+            Wrong::FixedNotRounded => size.fixed,
+            Wrong::VariableNotRounded => !size.fixed,
+            Wrong::VariantsNotRounded => in_variant,
+            Wrong::NestedNotRounded => self.working.iter().filter(|&&working| working).count() > 1,
+            Wrong::LastNotRounded => last,
+            _ => false,
+        };
+        self.layout == Layout::Aligned && !not
+    }
+
+    fn laid(&self, size: Size) -> Size {
+        let up = |bits: u128| match self.wrong {
+            Wrong::RoundedDown => bits - bits % 8,
+            Wrong::RoundedToNext => bits - bits % 8 + 8,
+            Wrong::RoundedToTwoBytes => bits.next_multiple_of(16),
+            _ => bits.next_multiple_of(8),
+        };
+        let least = self.unless(Wrong::SmallestNotRounded, up(size.least), size.least);
+        let most = self.unless(Wrong::LargestNotRounded, size.most.map(up), size.most);
+        let equal = self.is(Wrong::EqualEndsFixed) && Some(least) == most;
+        Size {
+            fixed: size.fixed || equal,
+            ..between(least, most)
+        }
+    }
+
+    /// What a type has inside it.
+    fn part(&mut self, tree: &Tree) -> Size {
+        let size = self.of(tree);
+        match self.is(Wrong::PartsRounded) {
+            true => self.laid(size),
+            false => size,
+        }
     }
 
     fn extremes(&mut self, variants: &[Vec<Field>]) -> Size {
@@ -198,7 +255,10 @@ impl Sizes<'_> {
                 _ => between(8, Some(8)),
             };
         }
-        let mut totals: Vec<Size> = variants.iter().map(|fields| self.total(fields)).collect();
+        let mut totals: Vec<Size> = variants
+            .iter()
+            .map(|fields| self.total(fields, true))
+            .collect();
         if self.is(Wrong::UnionFirstVariant) {
             totals.truncate(1);
         }
@@ -255,7 +315,9 @@ impl Sizes<'_> {
             Tree::Primitive(0) => fixed(self.unless(Wrong::BoolIsByte, 1, 8)),
             Tree::Primitive(13) => fixed(self.unless(Wrong::VoidIsBit, 0, 1)),
             Tree::Primitive(number) => fixed(primitive(*number)),
-            Tree::SubByte(_, bits) => fixed(bits + self.unless(Wrong::SubByteLonger, 0, 1)),
+            Tree::SubByte(_, bits) => {
+                fixed(u128::from(*bits) + self.unless(Wrong::SubByteLonger, 0, 1))
+            }
             Tree::Semantic(0 | 1) => between(
                 self.unless(Wrong::StringFromByte, 0, 8),
                 self.unless(Wrong::StringHasLargest, None, Some(500)),
@@ -264,9 +326,9 @@ impl Sizes<'_> {
             Tree::Semantic(3) => fixed(self.unless(Wrong::UuidLong, 128, 136)),
             Tree::Semantic(4) => fixed(64),
             Tree::Semantic(_) => fixed(256),
-            Tree::Bits(names) => fixed(names.len() as u64 + self.unless(Wrong::BitsLonger, 0, 1)),
+            Tree::Bits(names) => fixed(names.len() as u128 + self.unless(Wrong::BitsLonger, 0, 1)),
             Tree::Named(id) => self.name(*id as usize),
-            Tree::Fixed(part, count) => self.array(part, *count),
+            Tree::Fixed(part, count) => self.array(part, u128::from(*count)),
             Tree::Wrap(OPTIONAL, part) => self.optional(part),
             Tree::Wrap(ARRAY, _) => between(
                 self.unless(Wrong::ArrayFromNone, 8, 0),
@@ -276,7 +338,7 @@ impl Sizes<'_> {
             Tree::Pair(MAP, _, _) => between(8, self.unless(Wrong::MapHasLargest, None, Some(500))),
             Tree::Pair(_, ok, err) => self.result(ok, err),
             Tree::Wrap(kind, part) => {
-                let size = self.of(part);
+                let size = self.part(part);
                 let factor = self.factor(*kind);
                 Size {
                     least: size.least * factor,
@@ -288,7 +350,7 @@ impl Sizes<'_> {
         }
     }
 
-    fn factor(&self, kind: u64) -> u64 {
+    fn factor(&self, kind: u64) -> u128 {
         match kind {
             10 => self.unless(Wrong::Vec2Longer, 2, 3),
             11 => self.unless(Wrong::Vec3Shorter, 3, 2),
@@ -300,7 +362,7 @@ impl Sizes<'_> {
     }
 
     fn optional(&mut self, part: &Tree) -> Size {
-        let size = self.of(part);
+        let size = self.part(part);
         let bit = self.unless(Wrong::OptionalWithoutBit, 1, 0);
         let most = size.most.map(|most| bit + most);
         match self.wrong {
@@ -311,8 +373,8 @@ impl Sizes<'_> {
         }
     }
 
-    fn array(&mut self, part: &Tree, count: u64) -> Size {
-        let size = self.of(part);
+    fn array(&mut self, part: &Tree, count: u128) -> Size {
+        let size = self.part(part);
         let count = match count {
             0 => self.unless(Wrong::FixedArrayOfNoneIsOne, 0, 1),
             count => count,
@@ -331,7 +393,7 @@ impl Sizes<'_> {
     }
 
     fn result(&mut self, ok: &Tree, err: &Tree) -> Size {
-        let (ok, err) = (self.of(ok), self.of(err));
+        let (ok, err) = (self.part(ok), self.part(err));
         let bit = self.unless(Wrong::ResultWithoutBit, 1, 0);
         let least = match self.wrong {
             Wrong::ResultOfGreater => ok.least.max(err.least),
@@ -365,7 +427,11 @@ impl Sizes<'_> {
                 fixed(self.flags_bytes(slot) * self.unless(Wrong::FlagsInBytes, 8, 1))
             }
             Some(Slot::Newtype { inner, terminal }) => {
-                self.of(self.unless(Wrong::NewtypeByInner, terminal, inner))
+                let size = self.of(self.unless(Wrong::NewtypeByInner, terminal, inner));
+                match self.is(Wrong::NewtypesRounded) {
+                    true => self.laid(size),
+                    false => size,
+                }
             }
             Some(Slot::Message { .. } | Slot::Union { .. }) => match self.stored[slot] {
                 Some(size) if !self.is(Wrong::StoredNotUsed) => size,
@@ -380,7 +446,7 @@ impl Sizes<'_> {
         self.schema.declarations.contains(&(slot as u64))
     }
 
-    fn enum_bits(&self, slot: usize) -> u64 {
+    fn enum_bits(&self, slot: usize) -> u128 {
         let Slot::Enum {
             backing,
             non_exhaustive,
@@ -392,8 +458,8 @@ impl Sizes<'_> {
         };
         match self.wrong {
             Wrong::EnumAlwaysComputed => {}
-            Wrong::EnumAlwaysStored => return *bits,
-            _ if !self.declared(slot) => return *bits,
+            Wrong::EnumAlwaysStored => return (*bits).into(),
+            _ if !self.declared(slot) => return (*bits).into(),
             _ => {}
         }
         let highest = match self.wrong {
@@ -401,17 +467,20 @@ impl Sizes<'_> {
             _ => ordinals.live.iter().copied().max().unwrap_or(0),
         };
         match backing {
-            0 => u64::from(u64::BITS - highest.leading_zeros()).max(1 + 7 * non_exhaustive),
+            0 => {
+                let bits = u64::BITS - highest.leading_zeros();
+                u128::from(bits).max(1 + 7 * u128::from(*non_exhaustive))
+            }
             width => 4 << width,
         }
     }
 
-    fn flags_bytes(&self, slot: usize) -> u64 {
+    fn flags_bytes(&self, slot: usize) -> u128 {
         let Slot::Flags { bytes, bits } = &self.schema.slots[slot] else {
             unreachable!("asked of flags")
         };
         if self.is(Wrong::FlagsAlwaysStored) || !self.declared(slot) {
-            return *bytes;
+            return (*bytes).into();
         }
         match bits.live.iter().max() {
             None | Some(..=7) => 1,
@@ -423,7 +492,7 @@ impl Sizes<'_> {
 }
 
 /// Bits of a primitive, by its number in an image; Bool and Void aside.
-fn primitive(number: u64) -> u64 {
+fn primitive(number: u64) -> u128 {
     match number {
         1 | 5 => 8,
         2 | 6 => 16,

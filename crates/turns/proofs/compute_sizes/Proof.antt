@@ -19,6 +19,6 @@ compute-sizes-spec =
     (λ c. search needs)
     (λ c κs. search needs)
     (λ c. search needs)
-    (λ c. read-said _ _ _ _ _ _ _ (c .before .before .before .before .before .before .before .before .before .before .read-into .ensures .answer) (c .before .before .before .before .before .before .before .frame .given .1) (c .before .before .before .before .before .before .before .before .before .before .read-into .ensures .edition _ (c .before .before .before .before .before .before .before .frame .given .1)) (c .before .before .size-slots .ensures))
+    (λ c. read-said _ _ _ _ _ _ _ _ (c .before .before .before .before .before .before .before .before .before .before .read-into .ensures .answer) (c .before .before .before .before .before .before .before .frame .given .1) (c .before .before .before .before .before .before .before .before .before .before .read-into .ensures .edition _ (c .before .before .before .before .before .before .before .frame .given .1)) (c .before .before .size-slots .ensures))
     (λ c. search needs)
-    (λ c. refused-said _ _ _ _ _ _ _ (c .before .before .before .before .before .before .before .before .read-into .ensures .answer) (c .before .before .before .before .before .r .given .1) (c .before .before .clear .ensures)))
+    (λ c. refused-said _ _ _ _ _ _ _ _ (c .before .before .before .before .before .before .before .before .read-into .ensures .answer) (c .before .before .before .before .before .r .given .1) (c .before .before .clear .ensures)))

@@ -3,4 +3,4 @@ use Rattle.typeck.proofs.check_two.Statement.{statement}
 use Rattle.typeck.proofs.check_two.Tie as tie
 
 pub check-two-spec : {M : Type 1} → statement M
-check-two-spec = tie.close (tie.spec (λ c κs. search needs) (λ c. search needs) (λ c. search needs) (λ c. c .before .before .before .before .check-edition .ensures))
+check-two-spec = tie.close (tie.spec (λ c κs. search needs) (λ c. search needs) (λ c. search needs) (λ c. c .before .before .before .before .check-by .ensures))

@@ -1,3 +1,4 @@
+use Rattle.wiresize.specs.Steps.{frameOf}
 use Rattle.number.specs.Answers.{follow}
 use Rattle.wiresize.proofs.Settling.{limit-to}
 use borrow.Author.Needs.{needs}
@@ -9,7 +10,7 @@ use Rattle.wiresize.proofs.pass_limit.Tie as tie
 returns : tie.Need-returns
 unfolding follow
 returns c =
-    record { worked = refl; next = limit-to (c .before .before .before .args .frame) _ _ _ (c .place-of .ensures ∙ ap placeOf (c .before .skip-limit .ensures)) }
+    record { worked = refl; next = limit-to (frameOf (c .before .before .before .args .scope)) _ _ _ (c .place-of .ensures ∙ ap placeOf (c .before .skip-limit .ensures)) }
 
 pub pass-limit-spec : {M : Type 1} → statement M
 pass-limit-spec = tie.close (tie.spec (λ c κs. search needs) (λ c κs. search needs) returns)

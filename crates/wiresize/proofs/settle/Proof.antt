@@ -1,3 +1,4 @@
+use Rattle.wiresize.specs.Steps.{frameOf}
 use mathlib.Core.Path.{refl, sym, ap, _∙_}
 use native.Mathlib.Omega.{arith}
 use borrow.Author.Needs.{needs}
@@ -12,7 +13,7 @@ returns : tie.Need-returns
 unfolding follow
 returns c =
     c .settle-short .ensures _ _ _ refl
-    (limit-to (c .before .before .before .before .before .before .before .before .args .frame) _ _ _ (c .before .place-of .ensures ∙ ap placeOf (c .before .before .skip-limit .ensures)))
+    (limit-to (frameOf (c .before .before .before .before .before .before .before .before .args .scope)) _ _ _ (c .before .place-of .ensures ∙ ap placeOf (c .before .before .skip-limit .ensures)))
     (sym (c .before .before .before .before .before .before .short-field .ensures) ∙ c .before .before .before .before .encoding .given .1)
 
 pub settle-spec : {M : Type 1} → statement M

@@ -1,3 +1,4 @@
+use Rattle.wiresize.specs.Steps.{frameOf}
 use borrow.Author.Needs.{needs}
 use Rattle.wiresize.proofs.Settling.{at-type, by-varint, by-zigzag}
 use Rattle.wiresize.proofs.settle_long.Statement.{statement}
@@ -15,6 +16,6 @@ settle-long-spec =
     (λ c. search needs)
     (λ c κs. search needs)
     (λ c κs. search needs)
-    (λ c. at-type (c .before .before .before .before .before .args .frame) _ _ _ (c .before .before .before .field-type .ensures) _ (c .before .p .given .1))
-    (λ c. by-varint (c .before .before .before .before .before .before .before .args .frame) _ _ _ (c .before .before .before .before .before .field-type .ensures) _ (c .before .before .before .p2 .given .1) _ _ (c .before .varint-type .ensures) (c .pass-limit .ensures))
-    (λ c. by-zigzag (c .before .before .before .before .before .before .before .args .frame) _ _ _ (c .before .before .before .before .before .field-type .ensures) _ (c .before .before .before .p3 .given .1) _ _ (c .before .zigzag-type .ensures) (c .pass-limit2 .ensures)))
+    (λ c. at-type (frameOf (c .before .before .before .before .before .args .scope)) _ _ _ (c .before .before .before .field-type .ensures) _ (c .before .p .given .1))
+    (λ c. by-varint (frameOf (c .before .before .before .before .before .before .before .args .scope)) _ _ _ (c .before .before .before .before .before .field-type .ensures) _ (c .before .before .before .p2 .given .1) _ _ (c .before .varint-type .ensures) (c .pass-limit .ensures))
+    (λ c. by-zigzag (frameOf (c .before .before .before .before .before .before .before .args .scope)) _ _ _ (c .before .before .before .before .before .field-type .ensures) _ (c .before .before .before .p3 .given .1) _ _ (c .before .zigzag-type .ensures) (c .pass-limit2 .ensures)))

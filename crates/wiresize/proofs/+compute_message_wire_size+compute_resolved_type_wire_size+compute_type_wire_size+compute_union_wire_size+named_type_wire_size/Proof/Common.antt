@@ -2,6 +2,7 @@
 use Prim.Native.Nat.{ℕ, _<_}
 use borrow.Fn.Kinds.{In}
 use Rattle.reader.specs.Reading.{schemaOf}
+use Rattle.wiresize.specs.Steps.{frameOf}
 use Rattle.wiresize.proofs.Measure.{typeLeft, nameLeft, fieldLeft, bodyLeft}
 use borrow.Fn.PlainCycle.{Measures, is, falls, and}
 use Rattle.wiresize.proofs.compute_message_wire_size.Reads as compute-message-wire-size
@@ -19,7 +20,7 @@ abbrev pub μ-compute-message-wire-size : Measures 4 compute-message-wire-size-k
 μ-compute-message-wire-size κs a = bodyLeft (a .1 .1 .1 .1 .1 .0 .now)
 
 abbrev pub μ-compute-resolved-type-wire-size : Measures 4 compute-resolved-type-wire-size-kinds.ps ℕ
-μ-compute-resolved-type-wire-size κs a = typeLeft (a .0 .now) (a .1 .1 .0) (a .1 .1 .1 .1 .0) (a .1 .1 .1 .1 .1 .0 .now)
+μ-compute-resolved-type-wire-size κs a = typeLeft (a .0 .now) (frameOf (a .1 .1 .0)) (a .1 .1 .1 .1 .0) (a .1 .1 .1 .1 .1 .0 .now)
 
 abbrev pub μ-compute-type-wire-size : Measures 4 compute-type-wire-size-kinds.ps ℕ
 μ-compute-type-wire-size κs a = fieldLeft (a .1 .1 .1 .1 .1 .0 .now)

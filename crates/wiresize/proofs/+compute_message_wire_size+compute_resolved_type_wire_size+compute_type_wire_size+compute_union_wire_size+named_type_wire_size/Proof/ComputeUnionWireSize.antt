@@ -17,27 +17,29 @@ use Rattle.wiresize.proofs.+compute_message_wire_size+compute_resolved_
 use mathlib.Core.Path.{_≡_, refl, sym, ap, _∙_}
 use mathlib.Core.Bool.{false}
 use mathlib.Core.Logic.{⊎-elim}
+use Rattle.measures.proofs.round_field.Reads as round-field-reads
 use Rattle.number.proofs.Reading.{told, many-length}
+use Rattle.wiresize.specs.Steps.{frameOf}
 use Rattle.wiresize.proofs.Ended.{not-refused}
-use Rattle.wiresize.proofs.Fields.{FieldsLeft, next-field, field-turn, field-over, count-read}
+use Rattle.wiresize.proofs.Fields.{laid-aligned, laid-packed, FieldsLeft, next-field, field-turn, field-over, count-read}
 use Rattle.wiresize.proofs.Variants.{clash, union-none, VariantsLeft, variants-start, next-variant, variant-start, variant-turn, variant-over, variants-end, variants-behind}
 use Rattle.wiresize.proofs.Measure.{field-in-body}
 
 abbrev Inv-loop : compute-union-wire-size-lts.InvT-loop
-Inv-loop image starts frame rows at working count first extremes here₀ over₀ by₀ left fields after total₀ more₀ here over by total more = (over ≡ false) × FieldsLeft image frame rows working fields after more here total
+Inv-loop image starts scope rows at working layout count first extremes here₀ over₀ by₀ left fields after total₀ more₀ here over by total more = (over ≡ false) × FieldsLeft (scope .layout) image (frameOf scope) rows working fields after more here total
 
 abbrev μ-loop : compute-union-wire-size-lts.MeasureT-loop
-μ-loop image starts frame rows at working count first extremes here₀ over₀ by₀ left fields after total₀ more₀ here over by total more = more
+μ-loop image starts scope rows at working layout count first extremes here₀ over₀ by₀ left fields after total₀ more₀ here over by total more = more
 
 abbrev Inv-variants : compute-union-wire-size-lts.InvT-variants
-Inv-variants image starts frame rows at working count first extremes₀ here₀ over₀ by₀ left₀ extremes here over by left = (over ≡ false) × VariantsLeft image frame rows working count first left here extremes
+Inv-variants image starts scope rows at working layout count first extremes₀ here₀ over₀ by₀ left₀ extremes here over by left = (over ≡ false) × VariantsLeft (scope .layout) image (frameOf scope) rows working count first left here extremes
 
 abbrev μ-variants : compute-union-wire-size-lts.MeasureT-variants
-μ-variants image starts frame rows at working count first extremes₀ here₀ over₀ by₀ left₀ extremes here over by left = left
+μ-variants image starts scope rows at working layout count first extremes₀ here₀ over₀ by₀ left₀ extremes here over by left = left
 
 module _ (t : ℕ) where
   abbrev env : compute-union-wire-size-lts.Claims
-  env = (read-below-reads.Asked, read-below-reads.Learnt, empty-total-reads.Asked, empty-total-reads.Learnt, compute-type-wire-size-below t, compute-type-wire-size.Post, add-field-reads.Asked, add-field-reads.Learnt, total-size-reads.Asked, total-size-reads.Learnt, widen-reads.Asked, widen-reads.Learnt, tag-reads.Asked, tag-reads.Learnt)
+  env = (read-below-reads.Asked, read-below-reads.Learnt, empty-total-reads.Asked, empty-total-reads.Learnt, compute-type-wire-size-below t, compute-type-wire-size.Post, round-field-reads.Asked, round-field-reads.Learnt, add-field-reads.Asked, add-field-reads.Learnt, total-size-reads.Asked, total-size-reads.Learnt, widen-reads.Asked, widen-reads.Learnt, tag-reads.Asked, tag-reads.Learnt)
 
   read-below-requires : compute-union-wire-size-lts.Need-read-below-requires env (compute-union-wire-size-at t) compute-union-wire-size.Post Inv-loop μ-loop Inv-variants μ-variants
   read-below-requires c κs = search needs
@@ -53,11 +55,11 @@ module _ (t : ℕ) where
 
   returns-2 : compute-union-wire-size-lts.Need-returns-2 env (compute-union-wire-size-at t) compute-union-wire-size.Post Inv-loop μ-loop Inv-variants μ-variants
   returns-2 c = record {
-    worked = λ vs end q st H. union-none _ vs (many-length _ _ _ _ vs end (variants-behind _ _ _ _ (told (c .before .before .before .before .read-below .ensures) (c .before .before .count .given .1)) q) ∙ c .if1 .taken);
+    worked = λ vs end q st H. union-none _ _ vs (many-length _ _ _ _ vs end (variants-behind _ _ _ _ (told (c .before .before .before .before .read-below .ensures) (c .before .before .count .given .1)) q) ∙ c .if1 .taken);
   }
 
   variants-holds : compute-union-wire-size-lts.Need-variants-holds env (compute-union-wire-size-at t) compute-union-wire-size.Post Inv-loop μ-loop Inv-variants μ-variants
-  variants-holds c = (refl, variants-start _ _ _ _ _ _ _ _ (variants-behind _ _ _ _ (told (c .before .before .before .before .read-below .ensures) (c .before .before .count .given .1)) (c .before .before .before .before .before .before .before .before .pre .1 .reads)))
+  variants-holds c = (refl, variants-start _ _ _ _ _ _ _ _ _ (variants-behind _ _ _ _ (told (c .before .before .before .before .read-below .ensures) (c .before .before .count .given .1)) (c .before .before .before .before .before .before .before .before .pre .1 .0 .reads)))
 
   read-below-requires-2 : compute-union-wire-size-lts.Need-read-below-requires-2 env (compute-union-wire-size-at t) compute-union-wire-size.Post Inv-loop μ-loop Inv-variants μ-variants
   read-below-requires-2 c κs = search needs
@@ -69,18 +71,27 @@ module _ (t : ℕ) where
   enum-told-2 c = search needs
 
   returns-3 : compute-union-wire-size-lts.Need-returns-3 env (compute-union-wire-size-at t) compute-union-wire-size.Post Inv-loop μ-loop Inv-variants μ-variants
-  returns-3 c = absurd (not-refused (told (c .before .before .read-below2 .ensures) (c .enum-told2 .given .1)) (count-read _ _ _ (next-variant _ _ _ _ _ _ (c .before .before .before .before .variants .inv .1) (c .before .before .before .variants-test .taken) .here) .2))
+  returns-3 c = absurd (not-refused (told (c .before .before .read-below2 .ensures) (c .enum-told2 .given .1)) (count-read _ _ _ (next-variant _ _ _ _ _ _ _ (c .before .before .before .before .variants .inv .1) (c .before .before .before .variants-test .taken) .here) .2))
 
   empty-total-requires : compute-union-wire-size-lts.Need-empty-total-requires env (compute-union-wire-size-at t) compute-union-wire-size.Post Inv-loop μ-loop Inv-variants μ-variants
   empty-total-requires c κs = search needs
 
   loop-holds : compute-union-wire-size-lts.Need-loop-holds env (compute-union-wire-size-at t) compute-union-wire-size.Post Inv-loop μ-loop Inv-variants μ-variants
-  loop-holds c = (c .before .before .before .before .before .before .variants .inv .0, variant-start _ _ _ _ _ _ (c .before .before .before .before .before .before .variants .inv .1) (c .before .before .before .before .before .variants-test .taken) (told (c .before .before .before .before .read-below2 .ensures) (c .before .before .fields .given .1)) (c .empty-total .ensures))
+  loop-holds c = (c .before .before .before .before .before .before .variants .inv .0, variant-start _ _ _ _ _ _ _ (c .before .before .before .before .before .before .variants .inv .1) (c .before .before .before .before .before .variants-test .taken) (told (c .before .before .before .before .read-below2 .ensures) (c .before .before .fields .given .1)) (c .empty-total .ensures))
 
   compute-type-wire-size-requires : compute-union-wire-size-lts.Need-compute-type-wire-size-requires env (compute-union-wire-size-at t) compute-union-wire-size.Post Inv-loop μ-loop Inv-variants μ-variants
   compute-type-wire-size-requires c κs =
-      let f = next-field _ _ _ _ _ _ (c .before .loop .inv .1) (c .loop-test .taken) in
-      (omega (arith, field-in-body (c .before .before .before .before .before .before .before .before .before .before .before .before .before .before .before .before .before .args .working .now), c .before .before .before .before .before .before .before .before .before .before .before .before .before .before .before .before .before .pre .0), record { ready = c .before .before .before .before .before .before .before .before .before .before .before .before .before .before .before .before .before .pre .1 .ready; thing = _; end = _; reads = f .here })
+      let f = next-field _ _ _ _ _ _ _ (c .before .loop .inv .1) (c .loop-test .taken) in
+      (omega (arith, field-in-body (c .before .before .before .before .before .before .before .before .before .before .before .before .before .before .before .before .before .args .working .now), c .before .before .before .before .before .before .before .before .before .before .before .before .before .before .before .before .before .pre .0), record { ready = c .before .before .before .before .before .before .before .before .before .before .before .before .before .before .before .before .before .pre .1 .0 .ready; thing = _; end = _; reads = f .here })
+
+  enum-told-3 : compute-union-wire-size-lts.Need-enum-told-3 env (compute-union-wire-size-at t) compute-union-wire-size.Post Inv-loop μ-loop Inv-variants μ-variants
+  enum-told-3 c = search needs
+
+  round-field-requires : compute-union-wire-size-lts.Need-round-field-requires env (compute-union-wire-size-at t) compute-union-wire-size.Post Inv-loop μ-loop Inv-variants μ-variants
+  round-field-requires c κs = search needs
+
+  enum-told-4 : compute-union-wire-size-lts.Need-enum-told-4 env (compute-union-wire-size-at t) compute-union-wire-size.Post Inv-loop μ-loop Inv-variants μ-variants
+  enum-told-4 c = search needs
 
   add-field-requires : compute-union-wire-size-lts.Need-add-field-requires env (compute-union-wire-size-at t) compute-union-wire-size.Post Inv-loop μ-loop Inv-variants μ-variants
   add-field-requires c κs = search needs
@@ -88,8 +99,8 @@ module _ (t : ℕ) where
   enum-known-operation : compute-union-wire-size-lts.Need-enum-known-operation env (compute-union-wire-size-at t) compute-union-wire-size.Post Inv-loop μ-loop Inv-variants μ-variants
   enum-known-operation c = search needs
 
-  enum-told-3 : compute-union-wire-size-lts.Need-enum-told-3 env (compute-union-wire-size-at t) compute-union-wire-size.Post Inv-loop μ-loop Inv-variants μ-variants
-  enum-told-3 c = search needs
+  enum-told-5 : compute-union-wire-size-lts.Need-enum-told-5 env (compute-union-wire-size-at t) compute-union-wire-size.Post Inv-loop μ-loop Inv-variants μ-variants
+  enum-told-5 c = search needs
 
   sub-more : compute-union-wire-size-lts.Need-sub-more env (compute-union-wire-size-at t) compute-union-wire-size.Post Inv-loop μ-loop Inv-variants μ-variants
   sub-more c = omega arith
@@ -100,9 +111,12 @@ module _ (t : ℕ) where
   loop-again : compute-union-wire-size-lts.Need-loop-again env (compute-union-wire-size-at t) compute-union-wire-size.Post Inv-loop μ-loop Inv-variants μ-variants
   loop-again c =
       let added = c .before .before in
-      let field = added .before .before in
+      let joined = added .before .before in
+      let field = joined .before in
       let turn = field .before .before in
-      (turn .loop .inv .0, field-turn _ _ _ _ _ _ (turn .loop .inv .1) (field .before .loop-test .taken) _ (field .compute-type-wire-size .ensures) (added .add-field .ensures) (c .enum-told3 .given .1))
+      let same = turn .before .before .before .before .before .before .before .before .before .before .before .before .before .before .before .before .pre .1 .1 in
+      let lays = ⊎-elim (λ h. laid-aligned _ _ (sym same ∙ h .1 .given .1) (h .3 ∙ h .2 .ensures)) (λ h. laid-packed _ _ (sym same ∙ h .1 .given .1) (h .2)) (joined .match3 .came) in
+      (turn .loop .inv .0, field-turn _ _ _ _ _ _ _ (turn .loop .inv .1) (field .before .loop-test .taken) _ (field .compute-type-wire-size .ensures) lays (added .add-field .ensures) (c .enum-told5 .given .1))
 
   total-size-requires : compute-union-wire-size-lts.Need-total-size-requires env (compute-union-wire-size-at t) compute-union-wire-size.Post Inv-loop μ-loop Inv-variants μ-variants
   total-size-requires c κs = search needs
@@ -117,18 +131,19 @@ module _ (t : ℕ) where
   variants-less c = omega arith
 
   variants-again : compute-union-wire-size-lts.Need-variants-again env (compute-union-wire-size-at t) compute-union-wire-size.Post Inv-loop μ-loop Inv-variants μ-variants
-  variants-again c = (c .before .before .before .loop .inv .0, variant-turn _ _ _ _ _ _ (c .before .before .before .before .before .before .before .before .before .before .variants .inv .1) (c .before .before .before .before .before .before .before .before .before .variants-test .taken) (told (c .before .before .before .before .before .before .before .before .read-below2 .ensures) (c .before .before .before .before .before .before .fields .given .1)) (c .before .before .before .loop .inv .1) (c .before .before .loop-test .left) (c .before .total-size .ensures) (c .widen .ensures))
+  variants-again c = (c .before .before .before .loop .inv .0, variant-turn _ _ _ _ _ _ _ (c .before .before .before .before .before .before .before .before .before .before .variants .inv .1) (c .before .before .before .before .before .before .before .before .before .variants-test .taken) (told (c .before .before .before .before .before .before .before .before .read-below2 .ensures) (c .before .before .before .before .before .before .fields .given .1)) (c .before .before .before .loop .inv .1) (c .before .before .loop-test .left) (c .before .total-size .ensures) (c .widen .ensures))
 
   returns-4 : compute-union-wire-size-lts.Need-returns-4 env (compute-union-wire-size-at t) compute-union-wire-size.Post Inv-loop μ-loop Inv-variants μ-variants
   returns-4 c =
       record {
         worked = λ vs end q st H.
+            let same = c .before .before .before .before .before .before .before .before .before .before .before .pre .1 .1 in
             ⊎-elim
             (λ w. absurd (clash (c .if2 .taken) (w .2) (c .before .before .variants .inv .0)))
             (λ w.
-            ap (λ (o : Operation). Worked.Over o) (w .16)
-            ∙ variant-over _ _ _ _ _ _ (c .before .before .variants .inv .1) (w .0 .taken) (told (w .1 .ensures) (w .3 .given .1)) _
-            (field-over _ _ _ _ _ _ (w .6 .inv .1) (w .7 .taken) _ (w .8 .ensures) (w .10 .ensures) (w .12 .given .1)) vs end (variants-behind _ _ _ _ (told (c .before .before .before .before .before .before .before .read-below .ensures) (c .before .before .before .before .before .count .given .1)) q) st H)
+            ap (λ (o : Operation). Worked.Over o) (w .17)
+            ∙ variant-over _ _ _ _ _ _ _ (c .before .before .variants .inv .1) (w .0 .taken) (told (w .1 .ensures) (w .3 .given .1)) _
+            (field-over _ _ _ _ _ _ _ (w .6 .inv .1) (w .7 .taken) _ (w .8 .ensures) (⊎-elim (λ h. laid-aligned _ _ (sym same ∙ h .1 .given .1) (h .3 ∙ h .2 .ensures)) (λ h. laid-packed _ _ (sym same ∙ h .1 .given .1) (h .2)) (w .9 .came)) (w .11 .ensures) (w .13 .given .1)) vs end (variants-behind _ _ _ _ (told (c .before .before .before .before .before .before .before .read-below .ensures) (c .before .before .before .before .before .count .given .1)) q) st H)
             (c .before .variants-test .came);
       }
 
@@ -140,10 +155,10 @@ module _ (t : ℕ) where
       record {
         worked = λ vs end q st H.
             ⊎-elim
-            (λ w. variants-end _ _ _ _ _ _ (c .before .before .before .variants .inv .1) (pos-of-ne-zero (c .before .before .before .before .if1 .left)) (w .0 .left) (c .tag .ensures) vs end (variants-behind _ _ _ _ (told (c .before .before .before .before .before .before .before .before .read-below .ensures) (c .before .before .before .before .before .before .count .given .1)) q) st H)
-            (λ w. absurd (clash refl (sym (w .15)) (c .before .if2 .left)))
+            (λ w. variants-end _ _ _ _ _ _ _ (c .before .before .before .variants .inv .1) (pos-of-ne-zero (c .before .before .before .before .if1 .left)) (w .0 .left) (c .tag .ensures) vs end (variants-behind _ _ _ _ (told (c .before .before .before .before .before .before .before .before .read-below .ensures) (c .before .before .before .before .before .before .count .given .1)) q) st H)
+            (λ w. absurd (clash refl (sym (w .16)) (c .before .if2 .left)))
             (c .before .before .variants-test .came);
       }
 
   pub spec : {M : Type 1} → compute-union-wire-size-lts.Closed env (compute-union-wire-size-at t) compute-union-wire-size.Post M
-  spec = compute-union-wire-size-lts.spec env (compute-union-wire-size-at t) compute-union-wire-size.Post Inv-loop μ-loop Inv-variants μ-variants read-below-requires enum-known-count enum-told returns returns-2 variants-holds read-below-requires-2 enum-known-fields enum-told-2 returns-3 empty-total-requires loop-holds compute-type-wire-size-requires add-field-requires enum-known-operation enum-told-3 sub-more loop-less loop-again total-size-requires widen-requires sub-left variants-less variants-again returns-4 tag-requires returns-5
+  spec = compute-union-wire-size-lts.spec env (compute-union-wire-size-at t) compute-union-wire-size.Post Inv-loop μ-loop Inv-variants μ-variants read-below-requires enum-known-count enum-told returns returns-2 variants-holds read-below-requires-2 enum-known-fields enum-told-2 returns-3 empty-total-requires loop-holds compute-type-wire-size-requires enum-told-3 round-field-requires enum-told-4 add-field-requires enum-known-operation enum-told-5 sub-more loop-less loop-again total-size-requires widen-requires sub-left variants-less variants-again returns-4 tag-requires returns-5
