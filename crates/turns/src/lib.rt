@@ -6,6 +6,7 @@ use reader::Reading;
 use sizes::Layout;
 use sizes::Operation;
 use slot::Edition;
+use wiresize::Scope;
 use wiresize::Turned;
 ghost use mathlib.Core.Path.{_≡_};
 ghost use mathlib.Core.List.{List};
@@ -17,6 +18,7 @@ ghost use Rattle.reader.specs.Promise.{Promise};
 ghost use Rattle.sizes.specs.Sizes.{refusalOf};
 ghost use Rattle.sizes.specs.Names.{State};
 ghost use Rattle.sizes.specs.Check.{brought, tableOf};
+ghost use Rattle.wiresize.specs.Steps.{frameOf};
 ghost use Rattle.wiresize.specs.Asked.{Held};
 ghost use Rattle.turns.specs.Sizing.{layoutOf, gated, workedIn, Answered, SizesSaid, Begun, TurnTaken, Through};
 
@@ -78,22 +80,15 @@ fn gate(image: &[u8], starts: &[usize], frame: Frame, entry: Entry) -> Sizing
 }
 
 // One place of the declaration list.
-fn take_turn(
-    image: &[u8],
-    starts: &[usize],
-    frame: Frame,
-    layout: Layout,
-    rows: &mut [u64],
-    slot: u64,
-) -> Taken
-    requires { ⌜ Promise (now image) (now starts) frame × (3 * frame .slots ≤ length (now rows)) × Held (schemaOf (frame .edition) (now image)) (now rows) ⌝ }
-    ensures { λ r. ⌜ ((l : List ℕ) (st : State) → 3 * length (schemaOf (frame .edition) (now (image .entry)) .slots) ≤ length l → now (rows .entry) ≡ sets l 0 (tableOf (schemaOf (frame .edition) (now (image .entry))) st) → TurnTaken layout (schemaOf (frame .edition) (now (image .entry))) st slot l (now (rows .exit)) r) ⌝ }
+fn take_turn(image: &[u8], starts: &[usize], scope: Scope, rows: &mut [u64], slot: u64) -> Taken
+    requires { ⌜ Promise (now image) (now starts) (frameOf scope) × (3 * scope .slots ≤ length (now rows)) × Held (schemaOf (scope .edition) (now image)) (now rows) ⌝ }
+    ensures { λ r. ⌜ ((l : List ℕ) (st : State) → 3 * length (schemaOf (scope .edition) (now (image .entry)) .slots) ≤ length l → now (rows .entry) ≡ sets l 0 (tableOf (schemaOf (scope .edition) (now (image .entry))) st) → TurnTaken (scope .layout) (schemaOf (scope .edition) (now (image .entry))) st slot l (now (rows .exit)) r) ⌝ }
 {
-    if frame.slots <= slot {
+    if scope.slots <= slot {
         return Taken::On;
     }
     let i = slot as usize;
-    match wiresize::own_size(image, starts, frame, layout, rows, i) {
+    match wiresize::own_size(image, starts, scope, rows, i) {
         Turned::Sized(size) => {
             rows::put_row(rows, i, rows::size_row(size));
             Taken::On
@@ -104,28 +99,15 @@ fn take_turn(
 }
 
 // All places in order, up to the first at which a number passes the limit.
-fn take_turns(
-    image: &[u8],
-    starts: &[usize],
-    frame: Frame,
-    layout: Layout,
-    rows: &mut [u64],
-) -> Passed
-    requires { ⌜ Promise (now image) (now starts) frame × (3 * frame .slots ≤ length (now rows)) × Begun (schemaOf (frame .edition) (now image)) (now rows) ⌝ }
-    ensures { λ r. ⌜ ((l : List ℕ) → 3 * length (schemaOf (frame .edition) (now (image .entry)) .slots) ≤ length l → now (rows .entry) ≡ sets l 0 (tableOf (schemaOf (frame .edition) (now (image .entry))) (brought (schemaOf (frame .edition) (now (image .entry))))) → Through layout (schemaOf (frame .edition) (now (image .entry))) l (now (rows .exit)) r) ⌝ }
+fn take_turns(image: &[u8], starts: &[usize], scope: Scope, rows: &mut [u64]) -> Passed
+    requires { ⌜ Promise (now image) (now starts) (frameOf scope) × (3 * scope .slots ≤ length (now rows)) × Begun (schemaOf (scope .edition) (now image)) (now rows) ⌝ }
+    ensures { λ r. ⌜ ((l : List ℕ) → 3 * length (schemaOf (scope .edition) (now (image .entry)) .slots) ≤ length l → now (rows .entry) ≡ sets l 0 (tableOf (schemaOf (scope .edition) (now (image .entry))) (brought (schemaOf (scope .edition) (now (image .entry))))) → Through (scope .layout) (schemaOf (scope .edition) (now (image .entry))) l (now (rows .exit)) r) ⌝ }
 {
-    let mut left = frame.declarations;
-    let mut p = frame.declared;
+    let mut left = scope.declarations;
+    let mut p = scope.declared;
     while 0 < left {
         match number::read_below(image, p, 4294967296) {
-            Ranged::Value(slot, after) => match take_turn(
-                image,
-                starts,
-                frame,
-                layout,
-                rows,
-                slot,
-            ) {
+            Ranged::Value(slot, after) => match take_turn(image, starts, scope, rows, slot) {
                 Taken::On => {
                     p = after;
                     left -= 1;
@@ -153,12 +135,23 @@ fn work_out(
     requires { ⌜ Promise (now image) (now starts) frame ⌝ }
     ensures { λ r. ⌜ SizesSaid layout (schemaOf (frame .edition) (now (image .entry))) (workedIn layout (length (now (sizes .entry))) (schemaOf (frame .edition) (now (image .entry)))) (now (sizes .entry)) (now (sizes .exit)) r ⌝ }
 {
+    // Made ahead of its use: read back at once, it would wait for its own stores.
+    let edition = frame.edition;
+    let scope = Scope {
+        edition,
+        layout,
+        names: frame.names,
+        finds: frame.finds,
+        slots: frame.slots,
+        declarations: frame.declarations,
+        declared: frame.declared,
+    };
     table::clear(sizes);
     if (sizes.len() as u64) < 3 * frame.slots {
         return Sizing::Refused(10, 0);
     }
     rows::fill_rows(image, starts, frame, sizes);
-    match take_turns(image, starts, frame, layout, sizes) {
+    match take_turns(image, starts, scope, sizes) {
         Passed::All => Sizing::Accepted,
         Passed::Over(by, slot) => {
             table::clear(sizes);

@@ -1,5 +1,4 @@
 // Sizes of types, names, fields, messages and unions, from the bytes of an accepted image.
-use image::Frame;
 use number::Next;
 use number::Ranged;
 use sizes::Layout;
@@ -37,8 +36,8 @@ pub struct Scope {
     pub names: u64,
     pub finds: usize,
     pub slots: u64,
-    pub declared: usize,
     pub declarations: u64,
+    pub declared: usize,
 }
 
 // A size that was worked out, and the position after its type.
@@ -572,30 +571,14 @@ fn turn_from(worked: Worked) -> Turned
 }
 
 // A declared slot at its turn, itself being worked out.
-pub fn own_size(
-    image: &[u8],
-    starts: &[usize],
-    frame: Frame,
-    layout: Layout,
-    rows: &[u64],
-    slot: usize,
-) -> Turned
-    requires { ⌜ Promise (now image) (now starts) frame × (slot < frame .slots) × (3 * frame .slots ≤ length (now rows)) × Held (schemaOf (frame .edition) (now image)) (now rows) ⌝ }
-    ensures { λ r. ⌜ Owns layout (schemaOf (frame .edition) (now (image .entry))) (now (rows .entry)) slot r ⌝ }
+pub fn own_size(image: &[u8], starts: &[usize], scope: Scope, rows: &[u64], slot: usize) -> Turned
+    requires { ⌜ Promise (now image) (now starts) (frameOf scope) × (slot < scope .slots) × (3 * scope .slots ≤ length (now rows)) × Held (schemaOf (scope .edition) (now image)) (now rows) ⌝ }
+    ensures { λ r. ⌜ Owns (scope .layout) (schemaOf (scope .edition) (now (image .entry))) (now (rows .entry)) slot r ⌝ }
 {
     let Part::At(kind, _) = view::slot_part(image, starts, slot) else {
         return Turned::Other;
     };
-    let edition = frame.edition;
-    let scope = Scope {
-        edition,
-        layout,
-        names: frame.names,
-        finds: frame.finds,
-        slots: frame.slots,
-        declared: frame.declared,
-        declarations: frame.declarations,
-    };
+    let layout = scope.layout;
     let mut own = [false; 512];
     own[slot] = true;
     match kind {

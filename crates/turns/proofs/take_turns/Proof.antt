@@ -8,10 +8,10 @@ use Rattle.turns.proofs.take_turns.Statement.{statement}
 use Rattle.turns.proofs.take_turns.Tie as tie
 
 abbrev Inv-loop : tie.InvT-loop
-Inv-loop image starts frame layout rows₀ left₀ p₀ rows left p = Going layout image (schemaOf (frame .edition) image) rows₀ rows p left
+Inv-loop image starts scope rows₀ left₀ p₀ rows left p = Going (scope .layout) image (schemaOf (scope .edition) image) rows₀ rows p left
 
 abbrev μ-loop : tie.MeasureT-loop
-μ-loop image starts frame layout rows₀ left₀ p₀ rows left p = left
+μ-loop image starts scope rows₀ left₀ p₀ rows left p = left
 
 loop-holds : tie.Need-loop-holds Inv-loop μ-loop
 loop-holds c = first-turn _ _ _ _ _ _ _ (c .before .before .before .pre .0 .declared)
