@@ -351,12 +351,15 @@ fn round_wire_size(size: Size) -> Worked
     }
 }
 
-// A field as the head board adds it.
-pub fn round_field(field: Worked) -> Worked
-    ensures { λ r. ⌜ r ≡ then field (laid Layout.Aligned) ⌝ }
+// A field as its layout adds it.
+pub fn lay(field: Worked, layout: Layout) -> Worked
+    ensures { λ r. ⌜ r ≡ then field (laid layout) ⌝ }
 {
     match field {
-        Worked::Sized(size) => round_wire_size(size),
+        Worked::Sized(size) => match layout {
+            Layout::Packed => Worked::Sized(size),
+            Layout::Aligned => round_wire_size(size),
+        },
         Worked::Over(by) => Worked::Over(by),
     }
 }

@@ -12,7 +12,6 @@ use Rattle.image.specs.Schema.{Schema}
 use Rattle.image.specs.declared.Frame.{Frame}
 use Rattle.reader.specs.Reading.{schemaOf}
 use Rattle.sizes.specs.declared.Layout.{Layout}
-use Rattle.sizes.specs.declared.Layout.the-variants.{Packed, Aligned}
 use Rattle.sizes.specs.declared.Size.{Size}
 use Rattle.sizes.specs.declared.Size.the-variants.{Fixed}
 use Rattle.sizes.specs.declared.Operation.{Operation}
@@ -45,18 +44,9 @@ first-of g s (suc left) here h xs e q = let d : suc left - 1 ≡ left = omega ar
 pub same-thing : {A : Type 0} {m : Outcome A} {x y : A} {d e : ℕ} → m ≡ done x d → m ≡ done y e → (x ≡ y) × (d ≡ e)
 same-thing p q = given (sym p ∙ q)
 
--- a field as its layout adds it, by the code's steps
-module _ (L : Layout) (alone : Worked) {field : Worked} where
-  pub laid-aligned : L ≡ Aligned → field ≡ then alone (laid Aligned) → field ≡ then alone (laid L)
-  laid-aligned e q = q ∙ ap (λ (M : Layout). then alone (laid M)) (sym e)
-
-  pub laid-packed : L ≡ Packed → field ≡ alone → field ≡ then alone (laid L)
-  unfolding then
-  laid-packed e q = q ∙ go alone ∙ ap (λ (M : Layout). then alone (laid M)) (sym e)
-    where
-      go : (w : Worked) → w ≡ then w (laid Packed)
-      go (Sized z) = refl
-      go (Over o) = refl
+-- a field as its layout adds it, where that is the scope's
+pub laid-as : {M L : Layout} → M ≡ L → (alone : Worked) {field : Worked} → field ≡ then alone (laid M) → field ≡ then alone (laid L)
+laid-as e alone q = q ∙ ap (λ (X : Layout). then alone (laid X)) e
 
 -- what a running total adds up to
 total-on : (L : Layout) (R : Resolver) (total : Size) (x : Field) (xs : List Field) {w r : Worked} → w ≡ fieldSize L R x → r ≡ then w (λ z. limitedSum (added total z))

@@ -493,10 +493,8 @@ fn compute_message_wire_size(
     let mut left = count;
     while 0 < left {
         let field = compute_type_wire_size(image, starts, scope, rows, here, working);
-        let mut worked = field.worked;
-        if let Layout::Aligned = layout {
-            worked = measures::round_field(worked);
-        }
+        let alone = field.worked;
+        let worked = measures::lay(alone, layout);
         if let Step::Over(by) = total::add_field(&mut total, worked) {
             return Worked::Over(by);
         }
@@ -540,10 +538,8 @@ fn compute_union_wire_size(
         let mut more = fields;
         while 0 < more {
             let field = compute_type_wire_size(image, starts, scope, rows, here, working);
-            let mut worked = field.worked;
-            if let Layout::Aligned = layout {
-                worked = measures::round_field(worked);
-            }
+            let alone = field.worked;
+            let worked = measures::lay(alone, layout);
             if let Step::Over(operation) = total::add_field(&mut total, worked) {
                 over = true;
                 by = operation;

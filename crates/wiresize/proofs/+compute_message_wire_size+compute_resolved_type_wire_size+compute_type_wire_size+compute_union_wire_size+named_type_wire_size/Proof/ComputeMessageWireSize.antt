@@ -1,6 +1,4 @@
 use borrow.Author.Needs.{needs}
-use mathlib.Core.Logic.{⊎-elim}
-use mathlib.Core.Path.{sym, _∙_}
 use native.Mathlib.Omega.{arith}
 use Prim.Native.Nat.{ℕ}
 use Rattle.wiresize.proofs.compute_message_wire_size.Reads as compute-message-wire-size
@@ -11,11 +9,11 @@ use Rattle.total.proofs.total_size.Reads as total-size-reads
 use Rattle.number.proofs.read_below.Reads as read-below-reads
 use Rattle.wiresize.proofs.compute_type_wire_size.Reads as compute-type-wire-size
 use Rattle.wiresize.proofs.+compute_message_wire_size+compute_resolved_type_wire_size+compute_type_wire_size+compute_union_wire_size+named_type_wire_size.Proof.Common.{compute-type-wire-size-below, compute-message-wire-size-at}
-use Rattle.measures.proofs.round_field.Reads as round-field-reads
+use Rattle.measures.proofs.lay.Reads as lay-reads
 use Rattle.number.proofs.Reading.{told}
 use Rattle.wiresize.specs.Steps.{frameOf}
 use Rattle.wiresize.proofs.Ended.{not-refused}
-use Rattle.wiresize.proofs.Fields.{laid-aligned, laid-packed, FieldsLeft, fields-start, next-field, field-turn, field-over, fields-sum, fields-behind, count-read}
+use Rattle.wiresize.proofs.Fields.{laid-as, FieldsLeft, fields-start, next-field, field-turn, field-over, fields-sum, fields-behind, count-read}
 use Rattle.wiresize.proofs.Measure.{field-in-body}
 
 abbrev Inv-loop : compute-message-wire-size-lts.InvT-loop
@@ -26,7 +24,7 @@ abbrev μ-loop : compute-message-wire-size-lts.MeasureT-loop
 
 module _ (t : ℕ) where
   abbrev env : compute-message-wire-size-lts.Claims
-  env = (read-below-reads.Asked, read-below-reads.Learnt, empty-total-reads.Asked, empty-total-reads.Learnt, compute-type-wire-size-below t, compute-type-wire-size.Post, round-field-reads.Asked, round-field-reads.Learnt, add-field-reads.Asked, add-field-reads.Learnt, total-size-reads.Asked, total-size-reads.Learnt)
+  env = (read-below-reads.Asked, read-below-reads.Learnt, empty-total-reads.Asked, empty-total-reads.Learnt, compute-type-wire-size-below t, compute-type-wire-size.Post, lay-reads.Asked, lay-reads.Learnt, add-field-reads.Asked, add-field-reads.Learnt, total-size-reads.Asked, total-size-reads.Learnt)
 
   read-below-requires : compute-message-wire-size-lts.Need-read-below-requires env (compute-message-wire-size-at t) compute-message-wire-size.Post Inv-loop μ-loop
   read-below-requires c κs = search needs
@@ -51,14 +49,8 @@ module _ (t : ℕ) where
       let f = next-field _ _ _ _ _ _ _ (c .before .loop .inv) (c .loop-test .taken) in
       (omega (arith, field-in-body (c .before .before .before .before .before .before .before .before .before .before .args .working .now), c .before .before .before .before .before .before .before .before .before .before .pre .0), record { ready = c .before .before .before .before .before .before .before .before .before .before .pre .1 .0 .ready; thing = _; end = _; reads = f .here })
 
-  enum-told-2 : compute-message-wire-size-lts.Need-enum-told-2 env (compute-message-wire-size-at t) compute-message-wire-size.Post Inv-loop μ-loop
-  enum-told-2 c = search needs
-
-  round-field-requires : compute-message-wire-size-lts.Need-round-field-requires env (compute-message-wire-size-at t) compute-message-wire-size.Post Inv-loop μ-loop
-  round-field-requires c κs = search needs
-
-  enum-told-3 : compute-message-wire-size-lts.Need-enum-told-3 env (compute-message-wire-size-at t) compute-message-wire-size.Post Inv-loop μ-loop
-  enum-told-3 c = search needs
+  lay-requires : compute-message-wire-size-lts.Need-lay-requires env (compute-message-wire-size-at t) compute-message-wire-size.Post Inv-loop μ-loop
+  lay-requires c κs = search needs
 
   add-field-requires : compute-message-wire-size-lts.Need-add-field-requires env (compute-message-wire-size-at t) compute-message-wire-size.Post Inv-loop μ-loop
   add-field-requires c κs = search needs
@@ -69,16 +61,15 @@ module _ (t : ℕ) where
   returns-2 : compute-message-wire-size-lts.Need-returns-2 env (compute-message-wire-size-at t) compute-message-wire-size.Post Inv-loop μ-loop
   returns-2 c =
       let added = c .before .before .before in
-      let joined = added .before .before in
-      let field = joined .before in
+      let laid = added .before .before in
+      let field = laid .before in
       let turn = field .before .before in
       let start = turn .before .before .before in
       let same = turn .before .before .before .before .before .before .before .before .before .pre .1 .1 in
-      let lays = ⊎-elim (λ h. laid-aligned _ _ (sym same ∙ h .1 .given .1) (h .3 ∙ h .2 .ensures)) (λ h. laid-packed _ _ (sym same ∙ h .1 .given .1) (h .2)) (joined .match2 .came) in
-      record { worked = λ fs end q st H. field-over _ _ _ _ _ _ _ (turn .loop .inv) (field .before .loop-test .taken) _ (field .compute-type-wire-size .ensures) lays (added .add-field .ensures) (c .before .by .given .1) fs end (fields-behind _ _ _ _ (told (start .before .before .read-below .ensures) (start .count .given .1)) q) st H }
+      record { worked = λ fs end q st H. field-over _ _ _ _ _ _ _ (turn .loop .inv) (field .before .loop-test .taken) _ (field .compute-type-wire-size .ensures) (laid-as same _ (laid .lay .ensures)) (added .add-field .ensures) (c .before .by .given .1) fs end (fields-behind _ _ _ _ (told (start .before .before .read-below .ensures) (start .count .given .1)) q) st H }
 
-  enum-told-4 : compute-message-wire-size-lts.Need-enum-told-4 env (compute-message-wire-size-at t) compute-message-wire-size.Post Inv-loop μ-loop
-  enum-told-4 c = search needs
+  enum-told-2 : compute-message-wire-size-lts.Need-enum-told-2 env (compute-message-wire-size-at t) compute-message-wire-size.Post Inv-loop μ-loop
+  enum-told-2 c = search needs
 
   sub-left : compute-message-wire-size-lts.Need-sub-left env (compute-message-wire-size-at t) compute-message-wire-size.Post Inv-loop μ-loop
   sub-left c = omega arith
@@ -89,11 +80,10 @@ module _ (t : ℕ) where
   loop-again : compute-message-wire-size-lts.Need-loop-again env (compute-message-wire-size-at t) compute-message-wire-size.Post Inv-loop μ-loop
   loop-again c =
       let added = c .before .before in
-      let joined = added .before .before in
-      let field = joined .before in
+      let laid = added .before .before in
+      let field = laid .before in
       let same = field .before .before .before .before .before .before .before .before .before .before .before .pre .1 .1 in
-      let lays = ⊎-elim (λ h. laid-aligned _ _ (sym same ∙ h .1 .given .1) (h .3 ∙ h .2 .ensures)) (λ h. laid-packed _ _ (sym same ∙ h .1 .given .1) (h .2)) (joined .match2 .came) in
-      field-turn _ _ _ _ _ _ _ (field .before .before .loop .inv) (field .before .loop-test .taken) _ (field .compute-type-wire-size .ensures) lays (added .add-field .ensures) (c .enum-told4 .given .1)
+      field-turn _ _ _ _ _ _ _ (field .before .before .loop .inv) (field .before .loop-test .taken) _ (field .compute-type-wire-size .ensures) (laid-as same _ (laid .lay .ensures)) (added .add-field .ensures) (c .enum-told2 .given .1)
 
   total-size-requires : compute-message-wire-size-lts.Need-total-size-requires env (compute-message-wire-size-at t) compute-message-wire-size.Post Inv-loop μ-loop
   total-size-requires c κs = search needs
@@ -102,4 +92,4 @@ module _ (t : ℕ) where
   returns-3 c = record { worked = λ fs end q st H. fields-sum _ _ _ _ _ _ _ (c .before .before .loop .inv) (c .before .loop-test .left) fs end (fields-behind _ _ _ _ (told (c .before .before .before .before .before .before .before .read-below .ensures) (c .before .before .before .before .before .count .given .1)) q) (c .total-size .ensures) st H }
 
   pub spec : {M : Type 1} → compute-message-wire-size-lts.Closed env (compute-message-wire-size-at t) compute-message-wire-size.Post M
-  spec = compute-message-wire-size-lts.spec env (compute-message-wire-size-at t) compute-message-wire-size.Post Inv-loop μ-loop read-below-requires enum-known-count enum-told returns empty-total-requires loop-holds compute-type-wire-size-requires enum-told-2 round-field-requires enum-told-3 add-field-requires enum-known-by returns-2 enum-told-4 sub-left loop-less loop-again total-size-requires returns-3
+  spec = compute-message-wire-size-lts.spec env (compute-message-wire-size-at t) compute-message-wire-size.Post Inv-loop μ-loop read-below-requires enum-known-count enum-told returns empty-total-requires loop-holds compute-type-wire-size-requires lay-requires add-field-requires enum-known-by returns-2 enum-told-2 sub-left loop-less loop-again total-size-requires returns-3

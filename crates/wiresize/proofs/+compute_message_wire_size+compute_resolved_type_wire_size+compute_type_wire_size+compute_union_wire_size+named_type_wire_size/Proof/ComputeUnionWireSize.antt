@@ -17,11 +17,11 @@ use Rattle.wiresize.proofs.+compute_message_wire_size+compute_resolved_
 use mathlib.Core.Path.{_≡_, refl, sym, ap, _∙_}
 use mathlib.Core.Bool.{false}
 use mathlib.Core.Logic.{⊎-elim}
-use Rattle.measures.proofs.round_field.Reads as round-field-reads
+use Rattle.measures.proofs.lay.Reads as lay-reads
 use Rattle.number.proofs.Reading.{told, many-length}
 use Rattle.wiresize.specs.Steps.{frameOf}
 use Rattle.wiresize.proofs.Ended.{not-refused}
-use Rattle.wiresize.proofs.Fields.{laid-aligned, laid-packed, FieldsLeft, next-field, field-turn, field-over, count-read}
+use Rattle.wiresize.proofs.Fields.{laid-as, FieldsLeft, next-field, field-turn, field-over, count-read}
 use Rattle.wiresize.proofs.Variants.{clash, union-none, VariantsLeft, variants-start, next-variant, variant-start, variant-turn, variant-over, variants-end, variants-behind}
 use Rattle.wiresize.proofs.Measure.{field-in-body}
 
@@ -39,7 +39,7 @@ abbrev μ-variants : compute-union-wire-size-lts.MeasureT-variants
 
 module _ (t : ℕ) where
   abbrev env : compute-union-wire-size-lts.Claims
-  env = (read-below-reads.Asked, read-below-reads.Learnt, empty-total-reads.Asked, empty-total-reads.Learnt, compute-type-wire-size-below t, compute-type-wire-size.Post, round-field-reads.Asked, round-field-reads.Learnt, add-field-reads.Asked, add-field-reads.Learnt, total-size-reads.Asked, total-size-reads.Learnt, widen-reads.Asked, widen-reads.Learnt, tag-reads.Asked, tag-reads.Learnt)
+  env = (read-below-reads.Asked, read-below-reads.Learnt, empty-total-reads.Asked, empty-total-reads.Learnt, compute-type-wire-size-below t, compute-type-wire-size.Post, lay-reads.Asked, lay-reads.Learnt, add-field-reads.Asked, add-field-reads.Learnt, total-size-reads.Asked, total-size-reads.Learnt, widen-reads.Asked, widen-reads.Learnt, tag-reads.Asked, tag-reads.Learnt)
 
   read-below-requires : compute-union-wire-size-lts.Need-read-below-requires env (compute-union-wire-size-at t) compute-union-wire-size.Post Inv-loop μ-loop Inv-variants μ-variants
   read-below-requires c κs = search needs
@@ -84,14 +84,8 @@ module _ (t : ℕ) where
       let f = next-field _ _ _ _ _ _ _ (c .before .loop .inv .1) (c .loop-test .taken) in
       (omega (arith, field-in-body (c .before .before .before .before .before .before .before .before .before .before .before .before .before .before .before .before .before .args .working .now), c .before .before .before .before .before .before .before .before .before .before .before .before .before .before .before .before .before .pre .0), record { ready = c .before .before .before .before .before .before .before .before .before .before .before .before .before .before .before .before .before .pre .1 .0 .ready; thing = _; end = _; reads = f .here })
 
-  enum-told-3 : compute-union-wire-size-lts.Need-enum-told-3 env (compute-union-wire-size-at t) compute-union-wire-size.Post Inv-loop μ-loop Inv-variants μ-variants
-  enum-told-3 c = search needs
-
-  round-field-requires : compute-union-wire-size-lts.Need-round-field-requires env (compute-union-wire-size-at t) compute-union-wire-size.Post Inv-loop μ-loop Inv-variants μ-variants
-  round-field-requires c κs = search needs
-
-  enum-told-4 : compute-union-wire-size-lts.Need-enum-told-4 env (compute-union-wire-size-at t) compute-union-wire-size.Post Inv-loop μ-loop Inv-variants μ-variants
-  enum-told-4 c = search needs
+  lay-requires : compute-union-wire-size-lts.Need-lay-requires env (compute-union-wire-size-at t) compute-union-wire-size.Post Inv-loop μ-loop Inv-variants μ-variants
+  lay-requires c κs = search needs
 
   add-field-requires : compute-union-wire-size-lts.Need-add-field-requires env (compute-union-wire-size-at t) compute-union-wire-size.Post Inv-loop μ-loop Inv-variants μ-variants
   add-field-requires c κs = search needs
@@ -99,8 +93,8 @@ module _ (t : ℕ) where
   enum-known-operation : compute-union-wire-size-lts.Need-enum-known-operation env (compute-union-wire-size-at t) compute-union-wire-size.Post Inv-loop μ-loop Inv-variants μ-variants
   enum-known-operation c = search needs
 
-  enum-told-5 : compute-union-wire-size-lts.Need-enum-told-5 env (compute-union-wire-size-at t) compute-union-wire-size.Post Inv-loop μ-loop Inv-variants μ-variants
-  enum-told-5 c = search needs
+  enum-told-3 : compute-union-wire-size-lts.Need-enum-told-3 env (compute-union-wire-size-at t) compute-union-wire-size.Post Inv-loop μ-loop Inv-variants μ-variants
+  enum-told-3 c = search needs
 
   sub-more : compute-union-wire-size-lts.Need-sub-more env (compute-union-wire-size-at t) compute-union-wire-size.Post Inv-loop μ-loop Inv-variants μ-variants
   sub-more c = omega arith
@@ -111,12 +105,11 @@ module _ (t : ℕ) where
   loop-again : compute-union-wire-size-lts.Need-loop-again env (compute-union-wire-size-at t) compute-union-wire-size.Post Inv-loop μ-loop Inv-variants μ-variants
   loop-again c =
       let added = c .before .before in
-      let joined = added .before .before in
-      let field = joined .before in
+      let laid = added .before .before in
+      let field = laid .before in
       let turn = field .before .before in
       let same = turn .before .before .before .before .before .before .before .before .before .before .before .before .before .before .before .before .pre .1 .1 in
-      let lays = ⊎-elim (λ h. laid-aligned _ _ (sym same ∙ h .1 .given .1) (h .3 ∙ h .2 .ensures)) (λ h. laid-packed _ _ (sym same ∙ h .1 .given .1) (h .2)) (joined .match3 .came) in
-      (turn .loop .inv .0, field-turn _ _ _ _ _ _ _ (turn .loop .inv .1) (field .before .loop-test .taken) _ (field .compute-type-wire-size .ensures) lays (added .add-field .ensures) (c .enum-told5 .given .1))
+      (turn .loop .inv .0, field-turn _ _ _ _ _ _ _ (turn .loop .inv .1) (field .before .loop-test .taken) _ (field .compute-type-wire-size .ensures) (laid-as same _ (laid .lay .ensures)) (added .add-field .ensures) (c .enum-told3 .given .1))
 
   total-size-requires : compute-union-wire-size-lts.Need-total-size-requires env (compute-union-wire-size-at t) compute-union-wire-size.Post Inv-loop μ-loop Inv-variants μ-variants
   total-size-requires c κs = search needs
@@ -143,7 +136,7 @@ module _ (t : ℕ) where
             (λ w.
             ap (λ (o : Operation). Worked.Over o) (w .17)
             ∙ variant-over _ _ _ _ _ _ _ (c .before .before .variants .inv .1) (w .0 .taken) (told (w .1 .ensures) (w .3 .given .1)) _
-            (field-over _ _ _ _ _ _ _ (w .6 .inv .1) (w .7 .taken) _ (w .8 .ensures) (⊎-elim (λ h. laid-aligned _ _ (sym same ∙ h .1 .given .1) (h .3 ∙ h .2 .ensures)) (λ h. laid-packed _ _ (sym same ∙ h .1 .given .1) (h .2)) (w .9 .came)) (w .11 .ensures) (w .13 .given .1)) vs end (variants-behind _ _ _ _ (told (c .before .before .before .before .before .before .before .read-below .ensures) (c .before .before .before .before .before .count .given .1)) q) st H)
+            (field-over _ _ _ _ _ _ _ (w .6 .inv .1) (w .7 .taken) _ (w .8 .ensures) (laid-as same _ (w .9 .ensures)) (w .11 .ensures) (w .13 .given .1)) vs end (variants-behind _ _ _ _ (told (c .before .before .before .before .before .before .before .read-below .ensures) (c .before .before .before .before .before .count .given .1)) q) st H)
             (c .before .variants-test .came);
       }
 
@@ -161,4 +154,4 @@ module _ (t : ℕ) where
       }
 
   pub spec : {M : Type 1} → compute-union-wire-size-lts.Closed env (compute-union-wire-size-at t) compute-union-wire-size.Post M
-  spec = compute-union-wire-size-lts.spec env (compute-union-wire-size-at t) compute-union-wire-size.Post Inv-loop μ-loop Inv-variants μ-variants read-below-requires enum-known-count enum-told returns returns-2 variants-holds read-below-requires-2 enum-known-fields enum-told-2 returns-3 empty-total-requires loop-holds compute-type-wire-size-requires enum-told-3 round-field-requires enum-told-4 add-field-requires enum-known-operation enum-told-5 sub-more loop-less loop-again total-size-requires widen-requires sub-left variants-less variants-again returns-4 tag-requires returns-5
+  spec = compute-union-wire-size-lts.spec env (compute-union-wire-size-at t) compute-union-wire-size.Post Inv-loop μ-loop Inv-variants μ-variants read-below-requires enum-known-count enum-told returns returns-2 variants-holds read-below-requires-2 enum-known-fields enum-told-2 returns-3 empty-total-requires loop-holds compute-type-wire-size-requires lay-requires add-field-requires enum-known-operation enum-told-3 sub-more loop-less loop-again total-size-requires widen-requires sub-left variants-less variants-again returns-4 tag-requires returns-5
