@@ -198,6 +198,8 @@ boardLines =
     ∷ shows (all (of (wrap optional bool ∷ []) ∷ [])) (row 2 8 8)
     -- parts inside a field's type are not rounded: three Bools and the bit of an Optional are 1..4, then 8..8
     ∷ shows (all (of (wrap optional (fixedArray bool 3) ∷ []) ∷ [])) (row 2 8 8)
+    -- nor is an enum of 3 bits there
+    ∷ shows (all (of (wrap optional (slot 1) ∷ []) ∷ an-enum 0 (0 ∷ 4 ∷ []) ∷ [])) (row 2 8 8 ++ row 4 3 0)
     -- those of a message or union in it are
     ∷ shows (all (of (wrap optional (slot 1) ∷ []) ∷ of (bool ∷ bool ∷ []) ∷ [])) (row 2 8 24 ++ row 1 16 16)
     ∷ shows (all (a-union (each (bool ∷ []) ∷ each (bool ∷ u8 ∷ []) ∷ []) ∷ [])) (row 2 16 24)
@@ -212,7 +214,7 @@ boardLines =
     ∷ []
 
 pub board-lines-hold : answered Aligned boardLines ≡ said boardLines
-unfolding checkSizes turns turn onward ownSize bodySize storing store brought nameSize nameWithin nameRule contentSize contentOf contentIn slotOf typeSize leafSize wrapSize then limited primitiveBits semanticBits varintEnd zigZagEnd encodedSize fieldSize addFields addVariants unionSize tableOf rowsFrom slotRow
+unfolding checkSizes turns turn onward ownSize bodySize storing store brought nameSize nameWithin nameRule contentSize contentOf contentIn slotOf typeSize leafSize wrapSize then limited primitiveBits semanticBits varintEnd zigZagEnd encodedSize fieldSize addFields addVariants unionSize tableOf rowsFrom slotRow enumBitsAt has enumBits ordinalBits bitLength digits highest
 board-lines-hold = refl
 
 -- the last of them on the ordinary layout
