@@ -89,7 +89,8 @@ enum vexil_finding_column {
 /* There are two editions of an image, and nothing in the bytes tells which one they are: many are images of both, with other
  * contents. The caller knows it and chooses the function. The functions whose names end in _two read edition two, all others
  * edition one. In edition two a limit follows the type of each field of a message or variant, and retired ordinals or bits the
- * list of live ones; docs/FORMAT.md describes both. The answers, refusals and tables are the same. */
+ * list of live ones; docs/FORMAT.md describes both. Refusals and tables are the same. Retired ones count for the width of a
+ * declared enum or flags type as the live ones do, and so for every size made with it; limits change no answer. */
 
 /* The whole check: sizes and findings. Counts the findings. The rows of the slots stand in `sizes`, those of the findings in
  * `findings`, and zeros after them; on a refusal both tables are all zero. */

@@ -156,6 +156,15 @@ const ADDED: [Gap; 5] = [
     ending_at(&[0, 1, 2, 0, 0, 0, 0, 1]),
 ];
 
+/// A retired one that bears on the width of a declared slot: of an enum, of one
+/// that is non_exhaustive, of flags, and of an enum that has a live 5.
+const HELD: [Gap; 4] = [
+    around(&[0, 1, 2, 0, 0, 0, 0, 1], &[1, 0]),
+    around(&[0, 1, 2, 0, 1, 0, 0, 1], &[1, 0]),
+    around(&[0, 1, 3, 0, 0, 1], &[1, 0]),
+    around(&[0, 1, 2, 0, 0, 0, 1, 5, 1], &[1, 0]),
+];
+
 /// What bears on the head board, the slot being declared: the size that a
 /// message or a union brings, up to its last number, and the type of a message
 /// field, of edition one and with a limit of 0.
@@ -176,11 +185,13 @@ const fn around(before: &'static [u8], after: &'static [u8]) -> Gap {
 
 /// Compares on all images of up to `bytes` bytes, on all that have as many in a
 /// gap that bears on the head board, and on all that have a byte less where
-/// edition two adds a number; the family does not count.
+/// edition two adds a number or a retired one holds a width; the family does not
+/// count.
 pub fn exhaustive(bytes: usize, ours: Library) -> Outcome {
     let mut gaps = vec![(ending_at(&[]), bytes)];
     if ours.entry.edition == Edition::Two {
-        gaps.extend(ADDED.map(|gap| (gap, bytes.saturating_sub(1))));
+        let all = ADDED.into_iter().chain(HELD);
+        gaps.extend(all.map(|gap| (gap, bytes.saturating_sub(1))));
     }
     if ours.entry.layout == Layout::Aligned {
         gaps.extend(ALIGNED.map(|gap| (gap, bytes)));

@@ -35,7 +35,7 @@ oracle families                                  the families of generated image
 These take --edition 1, which is meant where it is not said, or --edition 2; and --layout packed,
 which is meant where it is not said, or --layout aligned, the head board. This takes an edition:
 oracle export-example > image                    the bond report as an image
-The others take neither; lengths and bench try both layouts, bench both editions:
+The others take neither; lengths and bench try both of each:
 oracle record --count N --seed S --out FILE      images and how they are read
 oracle record-lines --count N --seed S --out FILE  images and the lines of vexcheck
 oracle program --binary FILE --count N --seed S  a vexcheck and the Rust on generated images
@@ -382,25 +382,22 @@ fn run_lengths(options: &[String]) -> Result<bool, Failure> {
     without_entry(options)?;
     let (count, seed) = (number(options, "--count")?, number(options, "--seed")?);
     println!("per clause: held (held though a proviso is not met, past the horizon)");
-    let holds = Layout::ALL.map(|layout| lengths_of(layout, count, seed));
-    Ok(holds == [true; 2])
+    let entries = [Entry::ONE, Entry::ALIGNED, Entry::TWO, Entry::ALIGNED_TWO];
+    let holds = entries.map(|entry| lengths_of(entry, count, seed));
+    Ok(holds == [true; 4])
 }
 
-/// Lengths and sizes of one layout; false if they do not agree.
-fn lengths_of(layout: Layout, count: u64, seed: u64) -> bool {
-    let entry = Entry {
-        layout,
-        ..Entry::ONE
-    };
+/// Lengths and sizes of one edition and layout; false if they do not agree.
+fn lengths_of(entry: Entry, count: u64, seed: u64) -> bool {
     let start = Instant::now();
-    let subjects = lengths::subjects(layout, ours(entry).ok());
-    let summary = lengths::run(count, seed, layout, &subjects);
+    let subjects = lengths::subjects(entry, ours(entry).ok());
+    let summary = lengths::run(count, seed, entry, &subjects);
     print!("{summary}");
     if let Some(broken) = &summary.broken {
         println!("smallest image found: {}", hex(&broken.image));
         println!("{}: {}", broken.subject, broken.told);
     }
-    let low = summary.too_low(count, layout);
+    let low = summary.too_low(count, entry);
     low.iter().for_each(|count| println!("too low: {count}"));
     let verdict = match (&summary.broken, low.is_empty()) {
         (Some(_), _) => "BROKEN",
@@ -409,7 +406,12 @@ fn lengths_of(layout: Layout, count: u64, seed: u64) -> bool {
     };
     let seconds = start.elapsed().as_secs_f64();
     let schemas = summary.small.met.schemas + summary.families.met.schemas;
-    println!("lengths, {layout:?}: {schemas} schemas, {verdict}, {seconds:.1} s");
+    let layout = entry.layout;
+    let edition = match entry.edition {
+        Edition::One => "",
+        Edition::Two => ", edition two",
+    };
+    println!("lengths, {layout:?}{edition}: {schemas} schemas, {verdict}, {seconds:.1} s");
     summary.broken.is_none() && low.is_empty()
 }
 

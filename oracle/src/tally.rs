@@ -3,7 +3,8 @@
 use std::fmt;
 
 use crate::answer::{
-    AddedCounts, AlignedCounts, Classes, FieldCounts, Operation, Part, PassedLimit, Unions, Whole,
+    AddedCounts, AlignedCounts, Classes, FieldCounts, Operation, Part, PassedLimit, RetiredCounts,
+    Unions, Whole,
 };
 use crate::format::{Edition, Entry, Layout};
 use crate::generate::{FAMILIES, FIRST_EDITION};
@@ -39,7 +40,8 @@ fn images_each(number: usize, edition: Edition) -> u64 {
         // Images above 65,536 bytes are rare.
         (1, Edition::One) => 200_000,
         (1, Edition::Two) => 4_000,
-        (15, _) => 20,
+        (15, Edition::One) => 20,
+        (15, Edition::Two) => 25,
         _ => 20_000,
     }
 }
@@ -75,6 +77,8 @@ pub struct Tally {
     first_steps: FirstSteps,
     /// What edition two adds; none in a run of edition one.
     added: AddedCounts,
+    /// What retired ones change; nothing in a run of edition one.
+    retired: RetiredCounts,
     /// What the head board changes; nothing in a run of the packed layout.
     aligned: AlignedCounts,
 }
@@ -91,6 +95,7 @@ impl Default for Tally {
             unions: [0; 3],
             first_steps: FirstSteps::default(),
             added: AddedCounts::default(),
+            retired: RetiredCounts::default(),
             aligned: AlignedCounts::default(),
         }
     }
@@ -118,8 +123,8 @@ impl Tally {
         self.added.add(&whole.added);
     }
 
-    /// Counts what edition one makes of an image of edition two, and what the
-    /// packed layout makes of one for the head board.
+    /// Counts what edition one makes of an image of edition two, what its live ones
+    /// alone come to, and what the packed layout makes of one for the head board.
     pub fn look_across(&mut self, image: &[u8], entry: Entry, whole: &Whole) {
         if entry.edition == Edition::Two && whole.refusal().is_none() {
             let first = Entry {
@@ -127,6 +132,7 @@ impl Tally {
                 ..entry
             };
             self.added.count_both(&Whole::of(image, first), whole);
+            self.retired.count(image, entry, whole);
         }
         if entry.layout == Layout::Aligned {
             self.aligned.count(image, entry.edition, whole);
@@ -159,6 +165,7 @@ impl Tally {
             add_counts(counts, more);
         }
         self.added.add(&other.added);
+        self.retired.add(&other.retired);
         self.aligned.add(&other.aligned);
     }
 
@@ -169,7 +176,7 @@ impl Tally {
 
     /// What a run over all families has too few of, lest it show nothing:
     /// trait fields, images by class of finding, images by refusal, what
-    /// edition two adds and what the head board changes.
+    /// edition two adds, what its retired ones change and what the head board does.
     pub fn below_floor(&self, entry: Entry) -> Vec<String> {
         let Entry { edition, layout } = entry;
         let images = self.images();
@@ -188,7 +195,9 @@ impl Tally {
             held.push((what, totals[number], images / images_each(number, edition)));
         }
         if edition == Edition::Two {
-            held.extend(self.added.held(with_additions(images, layout)));
+            let adding = with_additions(images, layout);
+            held.extend(self.added.held(adding));
+            held.extend(self.retired.held(adding));
             let what = "images of edition one".into();
             held.push((what, self.first_edition(), images / FIRST_EDITION_EACH));
         }
@@ -247,6 +256,9 @@ impl fmt::Display for Tally {
         self.fields.fmt(out)?;
         if self.added != AddedCounts::default() {
             self.added.fmt(out)?;
+        }
+        if self.retired != RetiredCounts::default() {
+            self.retired.fmt(out)?;
         }
         if self.aligned != AlignedCounts::default() {
             self.aligned.fmt(out)?;

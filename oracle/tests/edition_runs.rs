@@ -1,15 +1,14 @@
 //! Runs over images of edition two: the floors that they are held to, wrong
-//! libraries that they have to tell, and the option for it.
+//! readings that they have to tell, and the option for it. `held_runs.rs` has wrong
+//! widths.
 
 mod command;
 
 use command::oracle;
 use oracle::compare::{compare, exhaustive, Outcome, Selection};
-use oracle::export::export;
 use oracle::format::{Edition, Entry, Layout, IMAGE_LIMIT};
 use oracle::generate::{family_named, Families};
 use oracle::import::{import, Added};
-use oracle::ir::{CompiledSchema, EnumVariantDef, TypeDef};
 use oracle::library::{Library, Verdict, REFERENCE, REFERENCE_TWO};
 use oracle::tally::numbers;
 
@@ -36,8 +35,8 @@ fn reference_equals_itself() {
 fn all_short_images() {
     let outcome = exhaustive(2, REFERENCE_TWO);
     assert_eq!(outcome.difference, None);
-    // All of two bytes, and of one byte after each of five beginnings.
-    let images = 1 + 256 + 65_536 + 5 * (1 + 256);
+    // All of two bytes, and of one byte in each of nine gaps.
+    let images = 1 + 256 + 65_536 + 9 * (1 + 256);
     assert_eq!(outcome.tally.images(), images);
     assert!(outcome.passed());
 }
@@ -63,6 +62,7 @@ fn floors_need_their_families() {
             "both-editions",
             "images answered otherwise by both editions",
         ),
+        ("held-widths", "accepted by live ones alone, but refused 14"),
     ] {
         let few = below_floor_without(name);
         let is_told = few.iter().any(|few| few.starts_with(told));
@@ -88,6 +88,7 @@ fn floors_are_told() {
         "limits, Mat4, variant: 0, not 1",
         "retired lists, flags, live too: 0, not 1",
         "images answered otherwise by both editions: 0, not 2",
+        "retired ones, flags, 8 bytes, not 4: 0, not 1",
     ] {
         assert!(few.iter().any(|few| few == told), "{told}: {few:?}");
     }
@@ -98,9 +99,8 @@ fn floors_are_told() {
 fn editions_are_1_and_2() {
     let families = |edition| oracle(&["families", "--edition", edition]);
     assert_eq!(oracle(&["families"]), families("1"));
-    assert!(families("2")
-        .expect("families")
-        .ends_with("first-edition\n"));
+    let two = families("2").expect("families");
+    assert!(two.ends_with("first-edition\nheld-widths\n"));
     let told = |edition| format!("oracle: --edition is 1 or 2, not {edition}\n");
     for edition in ["0", "3", "two", "--count"] {
         assert_eq!(families(edition), Err(told(edition)));
@@ -184,37 +184,4 @@ fn wrong_readings_are_told() {
     ] {
         assert!(run_family(family, library).difference.is_some(), "{family}");
     }
-}
-
-/// Retired ones do not count for widths; a library that lets them is told.
-#[test]
-fn retired_ones_that_count_are_told() {
-    let library = Library {
-        check: Some(|image, sizes, findings| {
-            let check = REFERENCE.check.expect("the reference has all");
-            match import(image, Edition::Two) {
-                Ok(imported) => check(&revived(imported.schema), sizes, findings),
-                Err(_) => or_reference(None, image, sizes, findings),
-            }
-        }),
-        ..REFERENCE_TWO
-    };
-    let difference = run_family("valid", library).difference;
-    assert_eq!(difference.expect("a difference").expected.verdict.number, 0);
-}
-
-/// The image of edition one in which retired ordinals are live.
-fn revived(mut schema: CompiledSchema) -> Vec<u8> {
-    for id in schema.declarations.clone() {
-        if let Some(TypeDef::Enum(en)) = schema.registry.get_mut(id) {
-            let retired = en.tombstones.drain(..);
-            en.variants.extend(retired.map(|one| EnumVariantDef {
-                name: one.reason,
-                span: one.span,
-                ordinal: one.ordinal,
-                annotations: Default::default(),
-            }));
-        }
-    }
-    export(&schema, Edition::One).expect("it fits")
 }

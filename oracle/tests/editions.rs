@@ -1,5 +1,6 @@
 //! Edition two: limits after the types of message and variant fields, retired
-//! ones after the live ones of enums and flags, and nothing else.
+//! ones after the live ones of enums and flags, and nothing else; and what becomes
+//! of them in edition one. `held_widths.rs` has the widths that retired ones hold.
 
 mod taken_out;
 
@@ -17,7 +18,7 @@ use oracle::model::{
 use oracle::span::Span;
 use oracle::typeck::check;
 use oracle::workers::on_long_stack;
-use taken_out::taken_out;
+use taken_out::{moved, taken_out};
 
 /// One name; one slot, a message { 0: U8 }, up to the field's limit.
 const TO_LIMIT: [u8; 12] = [1, 0, 1, 1, 0, 0, 0, 1, 0, 0, 0, 1];
@@ -168,21 +169,27 @@ fn trait_fields_have_no_limit() {
 
 #[test]
 fn retired_lists() {
-    // Count 0; two, one twice; the greatest; live 3 and 4, and 3 retired too.
-    let lists: [(&[u8], &[u8], &[u32]); 4] = [
-        (&[0], &[0], &[]),
-        (&[0], &[3, 7, 9, 7], &[7, 9, 7]),
-        (&[0], &[1, 0xff, 0xff, 0xff, 0xff, 0x0f], &[u32::MAX]),
-        (&[2, 3, 4], &[1, 3], &[3]),
+    // Count 0; two, one twice; the greatest; live 3 and 4, and 3 retired too. Then
+    // the bits of an enum and the bytes of flags.
+    type List = (&'static [u8], &'static [u8], &'static [u32], [u64; 2]);
+    let lists: [List; 4] = [
+        (&[0], &[0], &[], [1, 1]),
+        (&[0], &[3, 7, 9, 7], &[7, 9, 7], [4, 2]),
+        (
+            &[0],
+            &[1, 0xff, 0xff, 0xff, 0xff, 0x0f],
+            &[u32::MAX],
+            [32, 8],
+        ),
+        (&[2, 3, 4], &[1, 3], &[3], [3, 1]),
     ];
-    for (live, list, ordinals) in lists {
+    for (live, list, ordinals, [bits, bytes]) in lists {
         let image = joined(&[&TO_RETIRED_ORDINALS[..6], live, list, &DECLARED]);
         assert_eq!(retired(&read_two(&image)), [ordinals]);
-        let bits = if live.len() > 1 { 3 } else { 1 };
         assert_eq!(sizes(&image, Edition::Two), [4, bits, 0]);
         let image = joined(&[&TO_RETIRED_BITS[..4], live, list, &DECLARED]);
         assert_eq!(retired(&read_two(&image)), [ordinals]);
-        assert_eq!(sizes(&image, Edition::Two), [5, 1, 0]);
+        assert_eq!(sizes(&image, Edition::Two), [5, bytes, 0]);
     }
 }
 
@@ -305,6 +312,17 @@ fn everywhere() -> Schema {
     declared(vec![1, 0], slots)
 }
 
+/// The schema with its retired ones behind the live ones.
+fn revived(mut schema: Schema) -> Schema {
+    for slot in &mut schema.slots {
+        if let Slot::Enum { ordinals, .. } | Slot::Flags { bits: ordinals, .. } = slot {
+            let retired = std::mem::take(&mut ordinals.retired);
+            ordinals.live.extend(retired);
+        }
+    }
+    schema
+}
+
 #[test]
 fn schemas_come_back_in_both_editions() {
     let schema = everywhere();
@@ -318,6 +336,7 @@ fn schemas_come_back_in_both_editions() {
     let one = schema.bytes(Edition::One);
     assert_eq!(taken_out(&two), one);
     assert_eq!(export(&read, Edition::One), Ok(one.clone()));
+    assert_eq!(moved(&two), revived(schema).bytes(Edition::One));
     let read = import(&one, Edition::One).expect("accepted").schema;
     assert_eq!(limits(&read), [None; 5]);
     assert!(retired(&read).iter().all(Vec::is_empty));
@@ -358,14 +377,16 @@ fn exporter_writes_limits_and_tombstones() {
     expected[3] = Some(12);
     assert_eq!(limits(&read), expected);
     assert_eq!(retired(&read), [[9, 4, 9]]);
-    // Edition one has no place for them, and they change no answer.
+    // Edition one has no place for them.
     let plain = export(&bond_report(), Edition::One).expect("it fits");
     assert_eq!(export(&schema, Edition::One).as_ref(), Ok(&plain));
     assert_eq!(taken_out(&image), plain);
-    assert_eq!(
-        answered(&image, Edition::Two),
-        answered(&plain, Edition::One)
-    );
+    // A retired 9 takes a bit more than the live ones, in the report too.
+    let rows = [4, 3, 0, 2, 8, 33, 2, 67, 124];
+    assert_eq!(sizes(&plain, Edition::One), rows);
+    let rows = [4, 4, 0, 2, 8, 33, 2, 68, 125];
+    assert_eq!(sizes(&image, Edition::Two), rows);
+    assert_eq!(sizes(&moved(&image), Edition::One), rows);
 }
 
 #[test]
@@ -389,10 +410,14 @@ fn what_does_not_fit_edition_two_is_told() {
 }
 
 /// Calls `visit` with generated images that edition two accepts.
-fn each_accepted(batches: u64, visit: &mut (dyn FnMut(&[u8], CompiledSchema) + Send)) {
+fn each_accepted(
+    entry: Entry,
+    batches: u64,
+    visit: &mut (dyn FnMut(&[u8], CompiledSchema) + Send),
+) {
     on_long_stack(|| {
         for number in 0..batches {
-            batch(31, number, Families::All, Entry::TWO, |_, image| {
+            batch(31, number, Families::All, entry, |_, image| {
                 if let Ok(imported) = import(image, Edition::Two) {
                     visit(image, imported.schema);
                 }
@@ -402,42 +427,78 @@ fn each_accepted(batches: u64, visit: &mut (dyn FnMut(&[u8], CompiledSchema) + S
 }
 
 #[test]
-fn answered_as_the_image_left() {
-    let mut images = 0;
-    let mut changed = 0;
-    each_accepted(8_000, &mut |image, mut schema| {
-        let left = taken_out(image);
-        assert!(left.len() <= image.len());
-        let mut one = import(&left, Edition::One).expect("accepted too").schema;
-        let answers = [(image, Edition::Two), (&left, Edition::One)]
-            .map(|(image, edition)| answer(image, edition, PROGRAM_PLACES));
-        assert_eq!(answers[0], answers[1]);
-        // The check itself has no limit of sizes.
-        if matches!(answers[0], Ok(Answer::Accepted { .. })) {
-            let found = [&mut schema, &mut one].map(|schema| format!("{:?}", check(schema)));
-            assert_eq!(found[0], found[1]);
-            images += 1;
-            changed += u64::from(left != taken_out_nothing(image));
-        }
-    });
-    assert!(images > 4_000, "{images}");
-    assert!(changed > 2_500, "{changed}");
+fn answered_as_with_retired_ones_live() {
+    let (mut accepted, mut wider) = (0, 0);
+    for two in [Entry::TWO, Entry::ALIGNED_TWO] {
+        let one = Entry {
+            edition: Edition::One,
+            ..two
+        };
+        each_accepted(two, 6_000, &mut |image, _| {
+            let (live, left) = (moved(image), taken_out(image));
+            assert!(live.len() <= image.len());
+            let images = [(image, two), (&live, one), (&left, one)];
+            let [two, live, left] =
+                images.map(|(image, entry)| answer(image, entry, PROGRAM_PLACES));
+            assert_eq!(two, live, "{image:02x?}");
+            accepted += u64::from(matches!(two, Ok(Answer::Accepted { .. })));
+            wider += u64::from(two != left);
+        });
+    }
+    assert!(accepted > 6_000, "{accepted}");
+    assert!(wider > 600, "{wider}");
 }
 
-/// The image itself, unless something was taken out of it that is not 0.
-fn taken_out_nothing(image: &[u8]) -> Vec<u8> {
-    let schema = read_two(image);
-    let nothing =
-        limits(&schema).iter().all(Option::is_none) && retired(&schema).iter().all(Vec::is_empty);
-    match nothing {
-        true => taken_out(image),
-        false => image.to_vec(),
-    }
+/// Limits and retired ones leave nothing else behind: what is left holds what the
+/// exporter writes of the rest.
+#[test]
+fn taken_out_as_the_exporter_leaves_out() {
+    let mut changed = 0;
+    each_accepted(Entry::TWO, 4_000, &mut |image, schema| {
+        let left = taken_out(image);
+        let one = import(&left, Edition::One).expect("accepted too").schema;
+        assert_eq!(export(&one, Edition::One), export(&schema, Edition::One));
+        let limited = limits(&schema).iter().any(Option::is_some);
+        let retires = retired(&schema).iter().any(|list| !list.is_empty());
+        changed += u64::from(limited || retires);
+    });
+    assert!(changed > 1_000, "{changed}");
+}
+
+/// Findings do not hang on widths: whatever is taken out, they stay.
+#[test]
+fn findings_are_those_of_the_image_left() {
+    let (mut found, mut wider) = (0, 0);
+    each_accepted(Entry::TWO, 8_000, &mut |image, mut schema| {
+        let left = taken_out(image);
+        let images = [(image, Edition::Two), (&left, Edition::One)];
+        let tables = images.map(
+            |(image, edition)| match answer(image, edition, PROGRAM_PLACES) {
+                Ok(Answer::Accepted {
+                    sizes, findings, ..
+                }) => Some((sizes, findings)),
+                _ => None,
+            },
+        );
+        // Edition two refuses more for a size.
+        let [Some((sizes, findings)), Some((sizes_left, findings_left))] = tables else {
+            return;
+        };
+        assert_eq!(findings, findings_left);
+        found += u64::from(!findings.is_empty());
+        wider += u64::from(!findings.is_empty() && sizes != sizes_left);
+        // The check itself has no limit of sizes.
+        let mut left = import(&left, Edition::One).expect("accepted too").schema;
+        let told = [&mut schema, &mut left].map(|schema| format!("{:?}", check(schema)));
+        assert_eq!(told[0], told[1]);
+    });
+    assert!(found > 1_000, "{found}");
+    assert!(wider > 20, "{wider}");
 }
 
 #[test]
 fn generated_images_come_back() {
-    each_accepted(3_000, &mut |_, schema| {
+    each_accepted(Entry::TWO, 3_000, &mut |_, schema| {
         let once = export(&schema, Edition::Two).expect("what was read fits");
         let again = read_two(&once);
         assert_eq!(limits(&again), limits(&schema));

@@ -14,9 +14,12 @@ static const uint64_t loop_aligned[] = {VEXIL_SIZE_ENUM, 3, 0, VEXIL_SIZE_OPEN, 
 static const uint32_t loop_findings[] = {VEXIL_FINDING_ENDLESS, 1, 5, 9, 0, 0};
 static const size_t loop_starts[] = {3, 9, 22};
 
-/* The same in edition two, where the enum has the retired ordinals 9 and 4, and the message's fields the limits 7 and 300. */
+/* The same in edition two, where the enum has the retired ordinals 9 and 4, and the message's fields the limits 7 and 300: the
+ * enum takes a bit more. */
 static const uint8_t loop_two[] = {1, 0, 3, 2, 0, 0, 0, 1, 4, 2, 9, 4, 1, 5, 9, 0,
                                    2, 0, 0, 3, 1, 7, 0, 0, 3, 0, 0xac, 2, 0, 2, 0, 1};
+static const uint64_t loop_two_sizes[] = {VEXIL_SIZE_ENUM, 4, 0, VEXIL_SIZE_OPEN, 4, 0, VEXIL_SIZE_NONE, 0, 0};
+static const uint64_t loop_two_aligned[] = {VEXIL_SIZE_ENUM, 4, 0, VEXIL_SIZE_OPEN, 8, 0, VEXIL_SIZE_NONE, 0, 0};
 static const size_t loop_two_starts[] = {3, 12, 28};
 
 /* The same once more, in both editions, but that the message stores the fixed size 6. */
@@ -96,9 +99,9 @@ struct entry {
 };
 
 static const struct entry one = {vexil_check, loop_sizes, vexil_read, loop_starts};
-static const struct entry two = {vexil_check_two, loop_sizes, vexil_read_two, loop_two_starts};
+static const struct entry two = {vexil_check_two, loop_two_sizes, vexil_read_two, loop_two_starts};
 static const struct entry aligned = {vexil_check_aligned, loop_aligned, vexil_read, loop_starts};
-static const struct entry aligned_two = {vexil_check_aligned_two, loop_aligned, vexil_read_two, loop_two_starts};
+static const struct entry aligned_two = {vexil_check_aligned_two, loop_two_aligned, vexil_read_two, loop_two_starts};
 
 /* Each tries one call. A table of length 0 is lent as a null pointer. */
 static void check(const char *call, const struct entry *entry, const uint8_t *image, size_t length, size_t s, size_t f,

@@ -1,11 +1,12 @@
 //! The enumerator of lengths: each length rule of document 01 by hand, what the
-//! head board changes, and wrong sizes that it has to tell.
+//! head board and retired ones change, and wrong sizes that it has to tell.
 
 mod wrong_sizes;
 
 use std::sync::OnceLock;
 
 use oracle::answer::{Answer, Whole};
+use oracle::export::export;
 use oracle::format::{Edition, Entry, Layout};
 use oracle::import::import;
 use oracle::ir::CompiledSchema;
@@ -13,10 +14,12 @@ use oracle::lengths::clauses::{Clause, Facts, Proviso, Tally, Truth, Violation};
 use oracle::lengths::rules::lengths_of_slots;
 use oracle::lengths::set::{Lengths, HORIZON};
 use oracle::lengths::{run, schema, subjects, Broken, Subject, Table};
-use oracle::library::{Library, Sizer, Verdict, REFERENCE, REFERENCE_ALIGNED};
+use oracle::library::{
+    Library, Sizer, Verdict, REFERENCE, REFERENCE_ALIGNED, REFERENCE_ALIGNED_TWO, REFERENCE_TWO,
+};
 use oracle::model::{
-    declared, field, fixed, live, message, pair, union, wrap, Encoding, Field, Schema, Slot,
-    Stored, Tree, ARRAY, BOOL, MAP, MAT4, OPTIONAL, RESULT, SET, U32, U8, VEC2, VEC3, VOID,
+    declared, field, fixed, live, message, pair, union, wrap, Encoding, Field, Ordinals, Schema,
+    Slot, Stored, Tree, ARRAY, BOOL, MAP, MAT4, OPTIONAL, RESULT, SET, U32, U8, VEC2, VEC3, VOID,
 };
 use wrong_sizes::{table, Wrong, NOT_ASKED};
 
@@ -25,17 +28,17 @@ const SEED: u64 = 1;
 /// A type that names its own slot, the message 0, has this part.
 const ITSELF: Tree = Tree::Named(0);
 
-fn compiled(schema: &Schema) -> CompiledSchema {
-    let imported = import(&schema.bytes(Edition::One), Edition::One);
+fn compiled(schema: &Schema, edition: Edition) -> CompiledSchema {
+    let imported = import(&schema.bytes(edition), edition);
     imported.expect("an accepted image").schema
 }
 
 fn facts(schema: &Schema) -> Facts {
-    Facts::of(&compiled(schema), Layout::Packed)
+    Facts::of(&compiled(schema, Edition::One), Layout::Packed)
 }
 
 fn all(schema: &Schema) -> Vec<Lengths> {
-    lengths_of_slots(&compiled(schema), Layout::Packed)
+    lengths_of_slots(&compiled(schema, Edition::One), Layout::Packed)
 }
 
 fn first(slots: Vec<Slot>) -> Lengths {
@@ -224,7 +227,7 @@ fn values_are_finite() {
 #[test]
 fn fields_are_rounded() {
     let first = |slots: Vec<Slot>| {
-        let schema = compiled(&declared(vec![0; 3], slots));
+        let schema = compiled(&declared(vec![0; 3], slots), Edition::One);
         lengths_of_slots(&schema, Layout::Aligned)[0]
     };
     let of = |tree: Tree| first(vec![message(0, vec![field(0, tree)])]);
@@ -253,6 +256,39 @@ fn fields_are_rounded() {
     let mut lengths: Lengths = (1..HORIZON / 16).map(|parts| 16 * parts).collect();
     lengths.put(HORIZON);
     assert_eq!(first(vec![list]), lengths);
+}
+
+/// In edition two retired ones count for a declared width, and for no other.
+#[test]
+fn retired_ones_hold_their_width() {
+    let ordinals = |live, retired| Ordinals {
+        live: vec![live],
+        retired: vec![retired],
+    };
+    let enumeration = Slot::Enum {
+        backing: 0,
+        non_exhaustive: 0,
+        bits: 5,
+        ordinals: ordinals(3, 40),
+    };
+    let flags = Slot::Flags {
+        bytes: 3,
+        bits: ordinals(0, 9),
+    };
+    let fields = [wrap(OPTIONAL, Tree::Named(1)), Tree::Named(2)].map(|tree| field(0, tree));
+    let slots = vec![message(0, fields.to_vec()), enumeration, flags];
+    let mut schema = declared(vec![0], slots);
+    let lengths = |schema: &Schema, entry: Entry| {
+        let compiled = compiled(schema, entry.edition);
+        lengths_of_slots(&compiled, entry.layout)[0]
+    };
+    // Six bits and two bytes; without retired ones two bits and one byte.
+    assert_eq!(lengths(&schema, Entry::TWO), these([17, 23]));
+    assert_eq!(lengths(&schema, Entry::ALIGNED_TWO), these([24]));
+    assert_eq!(lengths(&schema, Entry::ONE), these([9, 11]));
+    schema.declarations = vec![0];
+    assert_eq!(lengths(&schema, Entry::TWO), these([25, 30]));
+    assert_eq!(lengths(&schema, Entry::ONE), these([25, 30]));
 }
 
 #[test]
@@ -305,7 +341,7 @@ fn sums_are_all_pairs() {
     }
 }
 
-/// A schema, what its lengths say in a layout, and the table worked out here.
+/// A schema, what its lengths say for an entry, and the table worked out here.
 struct Prepared {
     schema: Schema,
     facts: Facts,
@@ -313,23 +349,20 @@ struct Prepared {
 }
 
 /// Made once for all wrong sizes.
-fn prepared(layout: Layout) -> &'static [Prepared] {
-    static PACKED: OnceLock<Vec<Prepared>> = OnceLock::new();
-    static ALIGNED: OnceLock<Vec<Prepared>> = OnceLock::new();
-    let (all, entry) = match layout {
-        Layout::Packed => (&PACKED, Entry::ONE),
-        Layout::Aligned => (&ALIGNED, Entry::ALIGNED),
-    };
-    all.get_or_init(|| {
+fn prepared(entry: Entry) -> &'static [Prepared] {
+    const ENTRIES: usize = Entry::ALL.len();
+    static ALL: [OnceLock<Vec<Prepared>>; ENTRIES] = [const { OnceLock::new() }; ENTRIES];
+    let at = Entry::ALL.iter().position(|&one| one == entry);
+    ALL[at.expect("one of them")].get_or_init(|| {
         let one = |number| {
-            let schema = schema(SEED, number, layout);
-            let whole = Whole::sizes_of(&schema.bytes(Edition::One), entry);
+            let schema = schema(SEED, number, entry);
+            let whole = Whole::sizes_of(&schema.bytes(entry.edition), entry);
             let answer = whole.sizes_answer(3 * schema.slots.len() as u64);
             let Ok(Answer::Accepted { sizes, .. }) = answer else {
                 panic!("{answer:?}");
             };
             Prepared {
-                facts: Facts::of(&compiled(&schema), layout),
+                facts: Facts::of(&compiled(&schema, entry.edition), entry.layout),
                 schema,
                 sizes,
             }
@@ -340,17 +373,17 @@ fn prepared(layout: Layout) -> &'static [Prepared] {
 
 #[test]
 fn right_sizes_are_the_rusts() {
-    for layout in Layout::ALL {
-        for Prepared { schema, sizes, .. } in prepared(layout) {
-            let table = table(schema, layout, Wrong::Nothing);
+    for entry in Entry::ALL {
+        for Prepared { schema, sizes, .. } in prepared(entry) {
+            let table = table(schema, entry.layout, Wrong::Nothing);
             assert_eq!(&table, sizes, "{schema:?}");
         }
     }
 }
 
-fn found(layout: Layout, wrong: Wrong) -> Vec<Violation> {
-    let judged = prepared(layout).iter().filter_map(|one| {
-        let table = table(&one.schema, layout, wrong);
+fn found(entry: Entry, wrong: Wrong) -> Vec<Violation> {
+    let judged = prepared(entry).iter().filter_map(|one| {
+        let table = table(&one.schema, entry.layout, wrong);
         one.facts.judge(&table, &mut Tally::default())
     });
     judged.collect()
@@ -359,42 +392,58 @@ fn found(layout: Layout, wrong: Wrong) -> Vec<Violation> {
 #[test]
 fn wrong_sizes_are_told() {
     for &wrong in Wrong::ALL {
-        let found = found(Layout::Packed, wrong);
+        let found = found(Entry::ONE, wrong);
         let told = found.len();
         let right = wrong == Wrong::Nothing || NOT_ASKED.contains(&wrong);
         assert_eq!(told == 0, right, "{wrong:?}: {told} {:?}", found.first());
         println!("{wrong:?}: {told}");
         if NOT_ASKED.contains(&wrong) {
             let differs = |one: &Prepared| table(&one.schema, Layout::Packed, wrong) != one.sizes;
-            assert!(prepared(Layout::Packed).iter().any(differs), "{wrong:?}");
+            assert!(prepared(Entry::ONE).iter().any(differs), "{wrong:?}");
         }
     }
 }
 
 #[test]
 fn wrong_rounding_is_told() {
-    assert_eq!(found(Layout::Aligned, Wrong::Nothing), []);
+    assert_eq!(found(Entry::ALIGNED, Wrong::Nothing), []);
     for &wrong in Wrong::OF_ROUNDING {
-        let told = found(Layout::Aligned, wrong).len();
+        let told = found(Entry::ALIGNED, wrong).len();
         println!("{wrong:?}: {told}");
         assert!(told > 0, "{wrong:?}");
     }
 }
 
-/// Lengths that are not rounded do not go with sizes that are, nor the other
-/// way round.
 #[test]
-fn lengths_go_with_their_layout() {
-    let told = |lengths: Layout, sizes: Layout| {
+fn wrong_widths_are_told() {
+    for entry in [Entry::TWO, Entry::ALIGNED_TWO] {
+        assert_eq!(found(entry, Wrong::Nothing), []);
+        for &wrong in Wrong::OF_RETIRED {
+            let told = found(entry, wrong).len();
+            println!("{wrong:?}: {told}");
+            assert!(told > 0, "{wrong:?}");
+        }
+    }
+}
+
+/// Lengths that are not rounded do not go with sizes that are, nor the other
+/// way round; nor do those of edition one with sizes of edition two.
+#[test]
+fn lengths_go_with_their_entry() {
+    let told = |lengths: Entry, sizes: Entry| {
         let broken = prepared(sizes).iter().filter(|one| {
-            let facts = Facts::of(&compiled(&one.schema), lengths);
+            let facts = Facts::of(&compiled(&one.schema, lengths.edition), lengths.layout);
             facts.judge(&one.sizes, &mut Tally::default()).is_some()
         });
         broken.count()
     };
-    assert_eq!(told(Layout::Aligned, Layout::Aligned), 0);
-    assert!(told(Layout::Packed, Layout::Aligned) > 1_000);
-    assert!(told(Layout::Aligned, Layout::Packed) > 1_000);
+    assert_eq!(told(Entry::ALIGNED, Entry::ALIGNED), 0);
+    assert!(told(Entry::ONE, Entry::ALIGNED) > 1_000);
+    assert!(told(Entry::ALIGNED, Entry::ONE) > 1_000);
+    assert_eq!(told(Entry::TWO, Entry::TWO), 0);
+    assert!(told(Entry::ONE, Entry::TWO) > 100);
+    assert_eq!(told(Entry::ALIGNED_TWO, Entry::ALIGNED_TWO), 0);
+    assert!(told(Entry::ALIGNED, Entry::ALIGNED_TWO) > 50);
 }
 
 /// Each clause is the one that tells some wrong size.
@@ -409,7 +458,7 @@ fn each_clause_tells_one() {
     ];
     for (wrong, clause) in wrong {
         let told = |one: &Violation| one.clause == Some(clause);
-        let found = found(Layout::Packed, wrong);
+        let found = found(Entry::ONE, wrong);
         assert!(found.iter().any(told), "{wrong:?} by {clause:?}");
     }
     // A type without lengths: its row is enclosing whatever it says.
@@ -509,7 +558,7 @@ fn broken_by(sizes: Sizer) -> Broken {
         name: "wrong",
         table: Table::Sizes(library),
     };
-    let summary = run(400, SEED, Layout::Packed, &[subject]);
+    let summary = run(400, SEED, Entry::ONE, &[subject]);
     summary.broken.expect("it is told")
 }
 
@@ -536,14 +585,14 @@ fn a_wrong_library_is_told_by_a_small_image() {
 #[test]
 fn the_rust_meets_demand_three() {
     let count = 3_000;
-    for layout in Layout::ALL {
-        let summary = run(count, 9, layout, &subjects(layout, None));
+    for entry in Entry::ALL {
+        let summary = run(count, 9, entry, &subjects(entry, None));
         assert!(summary.broken.is_none(), "{:?}", summary.broken);
-        assert_eq!(summary.too_low(count, layout), Vec::<String>::new());
+        assert_eq!(summary.too_low(count, entry), Vec::<String>::new());
         let (_, tally) = &summary.small.tallies[0];
         for proviso in Proviso::ALL {
             // Where no size is brought, nothing hangs on those that are.
-            let needed = layout == Layout::Packed || proviso == Proviso::NotBack;
+            let needed = entry.layout == Layout::Packed || proviso == Proviso::NotBack;
             assert_eq!(tally.needed[proviso as usize] > 0, needed, "{proviso:?}");
         }
         assert!(tally.held.iter().all(|&held| held > 0), "{tally:?}");
@@ -554,17 +603,56 @@ fn the_rust_meets_demand_three() {
 /// one that rounds elsewhere.
 #[test]
 fn a_library_of_the_other_layout_is_told() {
-    for (layout, library) in [
-        (Layout::Aligned, REFERENCE),
-        (Layout::Packed, REFERENCE_ALIGNED),
+    for (entry, library) in [
+        (Entry::ALIGNED, REFERENCE),
+        (Entry::ONE, REFERENCE_ALIGNED),
+        (Entry::ALIGNED_TWO, REFERENCE_TWO),
+        (Entry::TWO, REFERENCE_ALIGNED_TWO),
     ] {
         let subject = Subject {
             name: "wrong",
             table: Table::Check(library),
         };
-        let broken = run(400, SEED, layout, &[subject]).broken;
+        let broken = run(400, SEED, entry, &[subject]).broken;
         let broken = broken.expect("it is told");
-        // At most one slot, declared: a message of one Bool.
-        assert!(broken.image.len() <= 14, "{:?}", broken.image);
+        // Few slots, one declared: a message of one Bool.
+        assert!(broken.image.len() <= 18, "{:?}", broken.image);
+    }
+}
+
+/// The size table without retired ones, of an image of edition two.
+fn by_live_ones(
+    library: Library,
+    image: &[u8],
+    sizes: &mut [u64],
+    findings: &mut [u32],
+) -> Verdict {
+    let schema = import(image, Edition::Two).expect("accepted").schema;
+    let left = export(&schema, Edition::One).expect("what was read fits");
+    let check = library.check.expect("the reference has all");
+    check(&left, sizes, findings)
+}
+
+#[test]
+fn a_library_by_live_ones_is_told() {
+    let packed = Library {
+        check: Some(|image, sizes, findings| by_live_ones(REFERENCE, image, sizes, findings)),
+        ..REFERENCE_TWO
+    };
+    let aligned = Library {
+        check: Some(|image, sizes, findings| {
+            by_live_ones(REFERENCE_ALIGNED, image, sizes, findings)
+        }),
+        ..REFERENCE_ALIGNED_TWO
+    };
+    for library in [packed, aligned] {
+        let subject = Subject {
+            name: "wrong",
+            table: Table::Check(library),
+        };
+        let broken = run(2_000, SEED, library.entry, &[subject]).broken;
+        let broken = broken.expect("it is told");
+        // A message of one field, and an enum or flags with a retired one.
+        assert!(broken.image.len() <= 28, "{:?}", broken.image);
     }
 }

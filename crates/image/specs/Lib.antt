@@ -1,4 +1,4 @@
 pub mod Schema
 pub mod Image
 pub mod Finds
-pub mod Without
+pub mod Changed

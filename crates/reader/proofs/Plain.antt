@@ -1,5 +1,5 @@
--- The schema of an image of edition one has no limit, and nothing retired in it; and refusals 7 to 9 look at neither.
--- Assumes nothing.
+-- The schema of an image of edition one has no limit, and nothing retired in it; and refusals 7 to 9 look at neither, nor at
+-- ordinals and bits. Assumes nothing.
 use Prim.Native.Nat.{ℕ, zero, suc}
 use mathlib.Core.Path.{_≡_, refl, sym, ap, ap₂, fun-ext, _∙_}
 use mathlib.Core.List.{List, [], _∷_, map, map-map}
@@ -17,7 +17,7 @@ use Rattle.slot.specs.declared.Edition.the-variants.{One}
 use Rattle.graph.specs.Ways.{Leads, lowest, lowestLooped, has}
 use Rattle.image.specs.Schema.{Schema, slotOf}
 use Rattle.image.specs.Image.{frontAt, Placed, placedAt, declaredAt, Image, endAt, imageAt, whole, imageOf, contentsOf, schemaIn}
-use Rattle.image.specs.Without.{fieldWithout, fieldsWithout, ordinalsWithout, slotWithout, without, slot-without}
+use Rattle.image.specs.Changed.{Change, fieldChanged, fieldsChanged, slotChanged, changed, slot-changed, bare}
 use Rattle.image.specs.declared.Frame.{Frame}
 use Rattle.loops.specs.Leads.{slotLeads, leads, loopOf}
 use Rattle.reader.specs.Reading.{isEmpty, lost, lostName, judged, schemaOr, schemaOf}
@@ -87,61 +87,61 @@ entry f [] h k = λ p. tt
 entry f (g ∷ t) h zero = h .0
 entry f (g ∷ t) h (suc k) = entry f t (h .1) k
 
-ordinals-plain : Kept ordinalsWithout (ordinalsAt One)
+ordinals-plain : Kept (bare .ordinals) (ordinalsAt One)
 unfolding Gives ordinalsAt retiredAt _>>=_
 ordinals-plain = after _ (counted (number value _)) _ (λ os. refl)
 
 -- a slot of one kind, from what the kind holds
 abbrev Plain : {A : Type 0} → (A → Slot) → Grammar A → Type 0
-Plain f g = Gives (λ x. slotWithout (f x) ≡ f x) g
+Plain f g = Gives (λ x. slotChanged bare (f x) ≡ f x) g
 
-made-plain : {A : Type 0} (f : A → Slot) (g : Grammar A) → Plain f g → Kept slotWithout (made f g)
+made-plain : {A : Type 0} (f : A → Slot) (g : Grammar A) → Plain f g → Kept (slotChanged bare) (made f g)
 unfolding Gives
 made-plain f g h = bind _ _ g _ h (λ x e. e)
 
-other-plain : {A : Type 0} (f : A → Slot) (g : Grammar A) → ((x : A) → slotWithout (f x) ≡ f x) → Kept slotWithout (made f g)
+other-plain : {A : Type 0} (f : A → Slot) (g : Grammar A) → ((x : A) → slotChanged bare (f x) ≡ f x) → Kept (slotChanged bare) (made f g)
 unfolding Gives
 other-plain f g h = after _ g _ h
 
 enum-plain : Plain enum (enumAt One)
-unfolding Gives enumAt slotWithout _>>=_
+unfolding Gives enumAt slotChanged _>>=_
 enum-plain b x w =
     bind _ _ (ordinalsAt One) _ ordinals-plain
     (λ os e. ap (λ (o : Ordinals). enum (record { backing = b; nonExhaustive = x; storedBits = w; ordinals = o })) e)
 
 flags-plain : Plain flags (flagsAt One)
-unfolding Gives flagsAt slotWithout _>>=_
+unfolding Gives flagsAt slotChanged _>>=_
 flags-plain w = bind _ _ (ordinalsAt One) _ ordinals-plain (λ os e. ap (λ (o : Ordinals). flags (record { storedBytes = w; bits = o })) e)
 
-abbrev placedWithout : Placed → Placed
-placedWithout x = record { start = x .start; content = slotWithout (x .content) }
+abbrev placedBare : Placed → Placed
+placedBare x = record { start = x .start; content = slotChanged bare (x .content) }
 
 module _ (n : ℕ) where
-  field-plain : Kept fieldWithout (fieldAt One n)
+  field-plain : Kept (fieldChanged bare) (fieldAt One n)
   unfolding Gives fieldAt limitAt _>>=_
   field-plain m = after _ (encodingAt 32) _ (λ e. after _ (typeAt n) _ (λ t. refl))
 
-  fields-plain : Kept fieldsWithout (fieldsAt One n)
-  fields-plain = counts fieldWithout (fieldAt One n) field-plain
+  fields-plain : Kept (fieldsChanged bare) (fieldsAt One n)
+  fields-plain = counts (fieldChanged bare) (fieldAt One n) field-plain
 
   message-plain : Plain message (messageAt One n)
-  unfolding Gives messageAt slotWithout
+  unfolding Gives messageAt slotChanged
   message-plain =
       after _ spanAt _
       (λ p. after _ storedAt _
       (λ z. bind _ _ (fieldsAt One n) _ fields-plain (λ fs e. ap (λ (l : List Field). message (record { span = p; stored = z; fields = l })) e)))
 
   union-plain : Plain union (unionAt One n)
-  unfolding Gives unionAt slotWithout
+  unfolding Gives unionAt slotChanged
   union-plain =
       after _ storedAt _
-      (λ z. bind _ _ (counted (fieldsAt One n)) _ (counts fieldsWithout (fieldsAt One n) fields-plain)
+      (λ z. bind _ _ (counted (fieldsAt One n)) _ (counts (fieldsChanged bare) (fieldsAt One n) fields-plain)
       (λ vs e. ap (λ (l : List (List Field)). union (record { stored = z; variants = l })) e))
 
-  slot-plain : Kept slotWithout (slotAt One n)
-  unfolding Gives slotAt slotBodyAt slotWithout _>>=_
+  slot-plain : Kept (slotChanged bare) (slotAt One n)
+  unfolding Gives slotAt slotBodyAt slotChanged _>>=_
   slot-plain =
-      entry slotWithout (slotTable One n) (
+      entry (slotChanged bare) (slotTable One n) (
         refl,
         (
           made-plain message (messageAt One n) message-plain,
@@ -164,26 +164,26 @@ module _ (n : ℕ) where
         ),
       )
 
-  placed-plain : Kept placedWithout (placedAt One n)
+  placed-plain : Kept placedBare (placedAt One n)
   unfolding Gives placedAt _>>=_
   placed-plain p = bind _ _ (slotAt One n) _ slot-plain (λ x e. ap (λ (y : Slot). record { start = p; content = y }) e)
 
 -- no limit, and nothing retired
 abbrev Bare : Schema → Type 0
-Bare S = without S ≡ S
+Bare S = changed bare S ≡ S
 
 image-plain : Gives (λ i. Bare (schemaIn i)) (imageAt One)
-unfolding Gives imageAt endAt schemaIn without
+unfolding Gives imageAt endAt schemaIn changed
 image-plain =
     after _ frontAt _
-    (λ f. bind _ _ (many (f .slotCount) (placedAt One (f .names))) _ (run placedWithout (f .slotCount) (placedAt One (f .names)) (placed-plain (f .names)))
+    (λ f. bind _ _ (many (f .slotCount) (placedAt One (f .names))) _ (run placedBare (f .slotCount) (placedAt One (f .names)) (placed-plain (f .names)))
     (λ ss e. after _ declaredAt _
     (λ d. ap (λ (l : List Slot). record { finds = f .finds; slots = l; declared = d .declared })
-    (map-map slotWithout (λ x. x .content) ss ∙ sym (map-map (λ x. x .content) placedWithout ss) ∙ ap contentsOf e))))
+    (map-map (slotChanged bare) (λ x. x .content) ss ∙ sym (map-map (λ x. x .content) placedBare ss) ∙ ap contentsOf e))))
 
 -- an image of edition one, read or not, has no limit and nothing retired anywhere
-pub plain-one : (s : List ℕ) → without (schemaOf One s) ≡ schemaOf One s
-unfolding schemaOf imageOf whole without
+pub plain-one : (s : List ℕ) → changed bare (schemaOf One s) ≡ schemaOf One s
+unfolding schemaOf imageOf whole changed
 plain-one s = outer (ltb 65536 (length s))
   where
     inner : (b : Bool) (i : Image) (n : ℕ) → Bare (schemaIn i) → Bare (schemaOr (cond b (refused 6 n) (done i n)))
@@ -198,52 +198,53 @@ plain-one s = outer (ltb 65536 (length s))
     outer true = refl
     outer false = ends (read (imageAt One) s 0) (gives-read _ (imageAt One) s 0 image-plain)
 
--- ## Refusals 7 to 9
+module _ (c : Change) where
+  -- ## Refusals 7 to 9
 
-empty-without : (x : Slot) → isEmpty (slotWithout x) ≡ isEmpty x
-unfolding slotWithout
-empty-without empty = refl
-empty-without (message m) = refl
-empty-without (enum e) = refl
-empty-without (flags f) = refl
-empty-without (union u) = refl
-empty-without (newtype n) = refl
-empty-without config = refl
-empty-without (alias a) = refl
-empty-without (trait t) = refl
-empty-without (impl i) = refl
+  empty-changed : (x : Slot) → isEmpty (slotChanged c x) ≡ isEmpty x
+  unfolding slotChanged
+  empty-changed empty = refl
+  empty-changed (message m) = refl
+  empty-changed (enum e) = refl
+  empty-changed (flags f) = refl
+  empty-changed (union u) = refl
+  empty-changed (newtype n) = refl
+  empty-changed config = refl
+  empty-changed (alias a) = refl
+  empty-changed (trait t) = refl
+  empty-changed (impl i) = refl
 
-leads-without : (sort : Sort) (finds : List ℕ) (x : Slot) → slotLeads sort finds (slotWithout x) ≡ slotLeads sort finds x
-unfolding slotLeads slotWithout
-leads-without sort finds empty = refl
-leads-without sort finds (message m) = refl
-leads-without sort finds (enum e) = refl
-leads-without sort finds (flags f) = refl
-leads-without sort finds (union u) = refl
-leads-without Resolved finds (newtype n) = refl
-leads-without Expression finds (newtype n) = refl
-leads-without sort finds config = refl
-leads-without Resolved finds (alias a) = refl
-leads-without Expression finds (alias a) = refl
-leads-without sort finds (trait t) = refl
-leads-without sort finds (impl i) = refl
+  leads-changed : (sort : Sort) (finds : List ℕ) (x : Slot) → slotLeads sort finds (slotChanged c x) ≡ slotLeads sort finds x
+  unfolding slotLeads slotChanged
+  leads-changed sort finds empty = refl
+  leads-changed sort finds (message m) = refl
+  leads-changed sort finds (enum e) = refl
+  leads-changed sort finds (flags f) = refl
+  leads-changed sort finds (union u) = refl
+  leads-changed Resolved finds (newtype n) = refl
+  leads-changed Expression finds (newtype n) = refl
+  leads-changed sort finds config = refl
+  leads-changed Resolved finds (alias a) = refl
+  leads-changed Expression finds (alias a) = refl
+  leads-changed sort finds (trait t) = refl
+  leads-changed sort finds (impl i) = refl
 
-module _ (S : Schema) where
-  lost-without : (find : ℕ) → lost (slotOf (without S)) find ≡ lost (slotOf S) find
-  unfolding lost
-  lost-without zero = refl
-  lost-without (suc i) = ap isEmpty (slot-without S i) ∙ empty-without (slotOf S i)
+  module _ (S : Schema) where
+    lost-changed : (find : ℕ) → lost (slotOf (changed c S)) find ≡ lost (slotOf S) find
+    unfolding lost
+    lost-changed zero = refl
+    lost-changed (suc i) = ap isEmpty (slot-changed c S i) ∙ empty-changed (slotOf S i)
 
-  names-without : (finds : List ℕ) → lostName finds (slotOf (without S)) ≡ lostName finds (slotOf S)
-  unfolding lostName
-  names-without finds = ap (λ (p : ℕ → Bool). lowest p (length finds) 0) (fun-ext (λ n. lost-without (getD finds n 0)))
+    names-changed : (finds : List ℕ) → lostName finds (slotOf (changed c S)) ≡ lostName finds (slotOf S)
+    unfolding lostName
+    names-changed finds = ap (λ (p : ℕ → Bool). lowest p (length finds) 0) (fun-ext (λ n. lost-changed (getD finds n 0)))
 
-  loop-without : (sort : Sort) (finds : List ℕ) (count : ℕ) → loopOf sort finds (slotOf (without S)) count ≡ loopOf sort finds (slotOf S) count
-  unfolding loopOf leads
-  loop-without sort finds count =
-      ap (λ (e : Leads). lowestLooped e count)
-      (fun-ext (λ i. fun-ext (λ j. ap (has j) (ap (slotLeads sort finds) (slot-without S i) ∙ leads-without sort finds (slotOf S i)))))
+    loop-changed : (sort : Sort) (finds : List ℕ) (count : ℕ) → loopOf sort finds (slotOf (changed c S)) count ≡ loopOf sort finds (slotOf S) count
+    unfolding loopOf leads
+    loop-changed sort finds count =
+        ap (λ (e : Leads). lowestLooped e count)
+        (fun-ext (λ i. fun-ext (λ j. ap (has j) (ap (slotLeads sort finds) (slot-changed c S i) ∙ leads-changed sort finds (slotOf S i)))))
 
-  pub judged-without : (f : Frame) → judged (without S) f ≡ judged S f
-  unfolding judged without
-  judged-without f = rw (names-without, length-map, loop-without Resolved, loop-without Expression)
+    pub judged-changed : (f : Frame) → judged (changed c S) f ≡ judged S f
+    unfolding judged changed
+    judged-changed f = rw (names-changed, length-map, loop-changed Resolved, loop-changed Expression)

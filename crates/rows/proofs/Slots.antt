@@ -13,6 +13,7 @@ use Rattle.slot.specs.Field.{Span, spanAt, Stored, storedTable, storedAt, field
 use Rattle.slot.specs.Slot.{Slot, empty, message, enum, flags, union, newtype, config, alias, trait, impl, slotKind, Message, messageAt, Ordinals, retiredAt, ordinalsAt, Enum, enumAt, Flags, flagsAt, Union, unionAt, made, slotBodyAt}
 use Rattle.slot.proofs.Whole.{Made, made-of}
 use Rattle.slot.specs.declared.Edition.{Edition}
+use Rattle.slot.specs.declared.Edition.the-variants.{One, Two}
 use Rattle.graph.specs.Ways.{has}
 use Rattle.image.specs.Schema.{Schema, slotOf}
 use Rattle.image.specs.declared.Frame.{Frame}
@@ -21,13 +22,13 @@ use Rattle.reader.specs.Promise.{Promise}
 use Rattle.view.specs.Part.{partAt}
 use Rattle.view.specs.declared.Part.{Part}
 use Rattle.reader.proofs.Fetching.{part-behind, not-missing}
-use Rattle.sizes.specs.Widths.{highest, enumBits, bytesTo, flagsBytes, enumBitsAt, flagsBytesAt}
+use Rattle.sizes.specs.Widths.{highest, topOf, enumBits, bytesTo, flagsBytes, enumBitsAt, flagsBytesAt}
 use Rattle.sizes.specs.declared.Size.the-variants.{Fixed, Bounded, Open}
 use Rattle.sizes.specs.Names.{State}
 use Rattle.sizes.specs.Check.{sizeIn, broughtIn, brought, isThere, row, sizeRow, slotRow}
 use Rattle.sizes.specs.Demand.{Sizable, isMessage, isUnion}
 use Rattle.sizes.specs.Table.{sizable-row}
-use Rattle.rows.specs.Rows.{numbers, Takes, RowIs, BringsIs}
+use Rattle.rows.specs.Rows.{numbers, Takes, Tops, RowIs, BringsIs}
 use Rattle.rows.specs.declared.Row.{Row}
 use Rattle.rows.proofs.Taking.{take-on}
 
@@ -94,67 +95,113 @@ module _ (s : List ℕ) (at : ℕ) where
     pub stored-none : ¬ (k ≡ 1) → ¬ (k ≡ 2) → ¬ (k ≡ 3) → row 0 0 0 ≡ sizeRow (sizeIn z)
     stored-none a b c = none-stored s n z end k behind-kind a b c
 
+  -- ## Ordinals and bits
+
+  -- a count, and so many
+  pub counted-tops : (c n : ℕ) → Takes s at c n → (start top next : ℕ) → Tops (many c (number value (2 ^ 32))) s n start top next
+      → Tops (counted (number value (2 ^ 32))) s at start top next
+  unfolding counted
+  counted-tops c n t start top next h os m r = h os m (take-on s at count 65537 _ os m c n t r)
+
+  -- the live ones, and the retired ones behind them
+  record OrdinalsParts (ed : Edition) (os : Ordinals) : Type 0 where
+    live : List ℕ
+    liveEnd : ℕ
+    liveRead : read (counted (number value (2 ^ 32))) s at ≡ done live liveEnd
+    retired : List ℕ
+    retiredEnd : ℕ
+    retiredRead : read (retiredAt ed) s liveEnd ≡ done retired retiredEnd
+    ordinalsAre : record { live = live; retired = retired } ≡ os
+
+  ordinals-parts : (ed : Edition) (os : Ordinals) (end : ℕ) → read (ordinalsAt ed) s at ≡ done os end → OrdinalsParts ed os
+  unfolding ordinalsAt read
+  ordinals-parts ed os end r =
+      let p = read-done (counted (number value (2 ^ 32))) _ s at os end r in
+      let q = read-done (retiredAt ed) _ s (p .middle) os end (p .rest) in
+      record {
+        live = p .first;
+        liveEnd = p .middle;
+        liveRead = p .here;
+        retired = q .first;
+        retiredEnd = q .middle;
+        retiredRead = q .here;
+        ordinalsAre = given (q .rest) .0;
+      }
+
+  module _ (v n : ℕ) (t : Tops (counted (number value (2 ^ 32))) s at 0 v n) where
+    -- in edition one none is retired
+    pub live-top : (ed : Edition) → ed ≡ One → (os : Ordinals) (end : ℕ) → read (ordinalsAt ed) s at ≡ done os end → v ≡ topOf os
+    unfolding retiredAt read topOf highest
+    live-top ed e os end r =
+        let p = ordinals-parts One os end (rw e at r) in
+        let none = given (p .retiredRead) .0 in
+        t (p .live) (p .liveEnd) (p .liveRead) .0
+        ∙ ap (λ (l : List ℕ). topOf (record { live = p .live; retired = l })) none
+        ∙ ap topOf (p .ordinalsAre)
+
+    -- in edition two they go on from the live ones
+    pub both-top : (ed : Edition) → ed ≡ Two → (w m : ℕ) → Tops (counted (number value (2 ^ 32))) s n v w m
+        → (os : Ordinals) (end : ℕ) → read (ordinalsAt ed) s at ≡ done os end → w ≡ topOf os
+    unfolding retiredAt topOf
+    both-top ed e w m u os end r =
+        let p = ordinals-parts Two os end (rw e at r) in
+        let q = t (p .live) (p .liveEnd) (p .liveRead) in
+        u (p .retired) (p .retiredEnd) (ap (read (counted (number value (2 ^ 32))) s) (q .1) ∙ p .retiredRead) .0
+        ∙ ap (λ (x : ℕ). highest x (p .retired)) (q .0)
+        ∙ ap topOf (p .ordinalsAre)
+
   -- ## Enums and flags
 
-  -- an enum from the numbers in front of its ordinals
-  record EnumParts (ed : Edition) (backing nonExhaustive bits ordinals : ℕ) (e : Enum) (end : ℕ) : Type 0 where
-    pub list : Ordinals
-    pub listRead : read (ordinalsAt ed) s ordinals ≡ done list end
-    pub enumIs : e ≡ record { backing = backing; nonExhaustive = nonExhaustive; storedBits = bits; ordinals = list }
+  module _ (ed : Edition) where
+    -- an enum from the numbers in front of its ordinals
+    record EnumParts (backing nonExhaustive bits ordinals : ℕ) (e : Enum) (end : ℕ) : Type 0 where
+      pub list : Ordinals
+      pub listRead : read (ordinalsAt ed) s ordinals ≡ done list end
+      pub enumIs : e ≡ record { backing = backing; nonExhaustive = nonExhaustive; storedBits = bits; ordinals = list }
 
-  module _ (b n x m w o : ℕ) (t : Takes s at b n) (u : Takes s n x m) (v : Takes s m w o) where
-    enum-parts : (ed : Edition) (e : Enum) (end : ℕ) → read (enumAt ed) s at ≡ done e end → EnumParts ed b x w o e end
-    unfolding enumAt read
-    enum-parts ed e end r =
-        let p = read-done (ordinalsAt ed) _ s o e end (take-on s m value 256 _ e end w o v (take-on s n value 2 _ e end x m u (take-on s at value 5 _ e end b n t r))) in
-        let g = given (p .rest) in
-        record { list = p .first; listRead = p .here ∙ ap (done (p .first)) (g .1); enumIs = sym (g .0) }
+    module _ (b n x m w o : ℕ) (t : Takes s at b n) (u : Takes s n x m) (v : Takes s m w o) where
+      enum-parts : (e : Enum) (end : ℕ) → read (enumAt ed) s at ≡ done e end → EnumParts b x w o e end
+      unfolding enumAt read
+      enum-parts e end r =
+          let p = read-done (ordinalsAt ed) _ s o e end (take-on s m value 256 _ e end w o v (take-on s n value 2 _ e end x m u (take-on s at value 5 _ e end b n t r))) in
+          let g = given (p .rest) in
+          record { list = p .first; listRead = p .here ∙ ap (done (p .first)) (g .1); enumIs = sym (g .0) }
 
-    pub enum-stored : (declared : Bool) → declared ≡ false → (ed : Edition) (e : Enum) (end : ℕ) → read (enumAt ed) s at ≡ done e end
-        → w ≡ cond declared (enumBits e) (e .storedBits)
-    enum-stored declared d ed e end r = rw (d, enum-parts ed e end r .enumIs)
+      pub enum-stored : (declared : Bool) → declared ≡ false → (e : Enum) (end : ℕ) → read (enumAt ed) s at ≡ done e end
+          → w ≡ cond declared (enumBits e) (e .storedBits)
+      enum-stored declared d e end r = rw (d, enum-parts e end r .enumIs)
 
-    pub enum-worked : (declared : Bool) → declared ≡ true → (top : ℕ) → ((ed : Edition) (os : Ordinals) (k : ℕ) → read (ordinalsAt ed) s o ≡ done os k → top ≡ highest 0 (os .live))
-        → (bits : ℕ) → ((e : Enum) → e .backing ≡ b → e .nonExhaustive ≡ x → highest 0 (e .ordinals .live) ≡ top → bits ≡ enumBits e)
-        → (ed : Edition) (e : Enum) (end : ℕ) → read (enumAt ed) s at ≡ done e end → bits ≡ cond declared (enumBits e) (e .storedBits)
-    enum-worked declared d top h bits k ed e end r =
-        let p = enum-parts ed e end r in
-        rw d (k e (ap (λ (y : Enum). y .backing) (p .enumIs)) (ap (λ (y : Enum). y .nonExhaustive) (p .enumIs))
-        (ap (λ (y : Enum). highest 0 (y .ordinals .live)) (p .enumIs) ∙ sym (h ed (p .list) end (p .listRead))))
+      pub enum-worked : (declared : Bool) → declared ≡ true → (top : ℕ) → ((os : Ordinals) (k : ℕ) → read (ordinalsAt ed) s o ≡ done os k → top ≡ topOf os)
+          → (bits : ℕ) → ((e : Enum) → e .backing ≡ b → e .nonExhaustive ≡ x → topOf (e .ordinals) ≡ top → bits ≡ enumBits e)
+          → (e : Enum) (end : ℕ) → read (enumAt ed) s at ≡ done e end → bits ≡ cond declared (enumBits e) (e .storedBits)
+      enum-worked declared d top h bits k e end r =
+          let p = enum-parts e end r in
+          rw d (k e (ap (λ (y : Enum). y .backing) (p .enumIs)) (ap (λ (y : Enum). y .nonExhaustive) (p .enumIs))
+          (ap (λ (y : Enum). topOf (y .ordinals)) (p .enumIs) ∙ sym (h (p .list) end (p .listRead))))
 
-  record FlagsParts (ed : Edition) (bytes ordinals : ℕ) (f : Flags) (end : ℕ) : Type 0 where
-    pub list : Ordinals
-    pub listRead : read (ordinalsAt ed) s ordinals ≡ done list end
-    pub flagsIs : f ≡ record { storedBytes = bytes; bits = list }
+    record FlagsParts (bytes ordinals : ℕ) (f : Flags) (end : ℕ) : Type 0 where
+      pub list : Ordinals
+      pub listRead : read (ordinalsAt ed) s ordinals ≡ done list end
+      pub flagsIs : f ≡ record { storedBytes = bytes; bits = list }
 
-  module _ (w o : ℕ) (t : Takes s at w o) where
-    flags-parts : (ed : Edition) (f : Flags) (end : ℕ) → read (flagsAt ed) s at ≡ done f end → FlagsParts ed w o f end
-    unfolding flagsAt read
-    flags-parts ed f end r =
-        let p = read-done (ordinalsAt ed) _ s o f end (take-on s at value 256 _ f end w o t r) in
-        let g = given (p .rest) in
-        record { list = p .first; listRead = p .here ∙ ap (done (p .first)) (g .1); flagsIs = sym (g .0) }
+    module _ (w o : ℕ) (t : Takes s at w o) where
+      flags-parts : (f : Flags) (end : ℕ) → read (flagsAt ed) s at ≡ done f end → FlagsParts w o f end
+      unfolding flagsAt read
+      flags-parts f end r =
+          let p = read-done (ordinalsAt ed) _ s o f end (take-on s at value 256 _ f end w o t r) in
+          let g = given (p .rest) in
+          record { list = p .first; listRead = p .here ∙ ap (done (p .first)) (g .1); flagsIs = sym (g .0) }
 
-    pub flags-stored : (declared : Bool) → declared ≡ false → (ed : Edition) (f : Flags) (end : ℕ) → read (flagsAt ed) s at ≡ done f end
-        → w ≡ cond declared (flagsBytes f) (f .storedBytes)
-    flags-stored declared d ed f end r = rw (d, flags-parts ed f end r .flagsIs)
+      pub flags-stored : (declared : Bool) → declared ≡ false → (f : Flags) (end : ℕ) → read (flagsAt ed) s at ≡ done f end
+          → w ≡ cond declared (flagsBytes f) (f .storedBytes)
+      flags-stored declared d f end r = rw (d, flags-parts f end r .flagsIs)
 
-    pub flags-worked : (declared : Bool) → declared ≡ true → (top : ℕ) → ((ed : Edition) (os : Ordinals) (k : ℕ) → read (ordinalsAt ed) s o ≡ done os k → top ≡ highest 0 (os .live))
-        → (bytes : ℕ) → bytes ≡ bytesTo top → (ed : Edition) (f : Flags) (end : ℕ) → read (flagsAt ed) s at ≡ done f end → bytes ≡ cond declared (flagsBytes f) (f .storedBytes)
-    unfolding flagsBytes
-    flags-worked declared d top h bytes k ed f end r =
-        let p = flags-parts ed f end r in
-        rw d (k ∙ ap bytesTo (h ed (p .list) end (p .listRead) ∙ ap (λ (y : Flags). highest 0 (y .bits .live)) (sym (p .flagsIs))))
-
-  -- the count of ordinals, and the ordinals
-  pub ordinals-highest : (c n : ℕ) → Takes s at c n → (top : ℕ) → ((os : List ℕ) (k : ℕ) → read (many c (number value (2 ^ 32))) s n ≡ done os k → top ≡ highest 0 os)
-      → (ed : Edition) (os : Ordinals) (end : ℕ) → read (ordinalsAt ed) s at ≡ done os end → top ≡ highest 0 (os .live)
-  unfolding ordinalsAt counted read
-  ordinals-highest c n t top h ed os end r =
-      let p = read-done (counted (number value (2 ^ 32))) _ s at os end r in
-      let q = take-on s at count 65537 _ (p .first) (p .middle) c n t (p .here) in
-      let v = read-done (retiredAt ed) _ s (p .middle) os end (p .rest) in
-      h (p .first) (p .middle) q ∙ ap (λ (y : Ordinals). highest 0 (y .live)) (given (v .rest) .0)
+      pub flags-worked : (declared : Bool) → declared ≡ true → (top : ℕ) → ((os : Ordinals) (k : ℕ) → read (ordinalsAt ed) s o ≡ done os k → top ≡ topOf os)
+          → (bytes : ℕ) → bytes ≡ bytesTo top → (f : Flags) (end : ℕ) → read (flagsAt ed) s at ≡ done f end → bytes ≡ cond declared (flagsBytes f) (f .storedBytes)
+      unfolding flagsBytes
+      flags-worked declared d top h bytes k f end r =
+          let p = flags-parts f end r in
+          rw d (k ∙ ap bytesTo (h (p .list) end (p .listRead) ∙ ap (λ (y : Flags). topOf (y .bits)) (sym (p .flagsIs))))
 
   -- ## Messages and unions
 
@@ -239,8 +286,8 @@ brings-none (trait t) a b = refl
 brings-none (impl m) a b = refl
 
 module _ (s starts : List ℕ) (i : ℕ) where
-  pub row-missing : partAt s starts i ≡ Part.Missing → (declared : Bool) (r : Row) → RowIs s starts i declared r
-  row-missing e declared r f promise h d = absurd (not-missing s starts f promise i h e)
+  pub row-missing : partAt s starts i ≡ Part.Missing → (ed : Edition) (declared : Bool) (r : Row) → RowIs s starts ed i declared r
+  row-missing e ed declared r f same promise h d = absurd (not-missing s starts f promise i h e)
 
   pub brings-missing : partAt s starts i ≡ Part.Missing → (r : Bool) → BringsIs s starts i r
   brings-missing e r f promise h = absurd (not-missing s starts f promise i h e)
@@ -301,35 +348,35 @@ module _ (s starts : List ℕ) (i : ℕ) where
 
     -- ## Its row
 
-    pub row-message : (declared : Bool) → k ≡ 1 → (p : ℕ) → ((x : Span) (n : ℕ) → read spanAt s body ≡ done x n → p ≡ n)
-        → (r : Row) → ((z : Stored) (n : ℕ) → read storedAt s p ≡ done z n → numbers r ≡ sizeRow (sizeIn z)) → RowIs s starts i declared r
-    row-message declared q p after r says f promise h d =
+    pub row-message : (ed : Edition) (declared : Bool) → k ≡ 1 → (p : ℕ) → ((x : Span) (n : ℕ) → read spanAt s body ≡ done x n → p ≡ n)
+        → (r : Row) → ((z : Stored) (n : ℕ) → read storedAt s p ≡ done z n → numbers r ≡ sizeRow (sizeIn z)) → RowIs s starts ed i declared r
+    row-message ed declared q p after r says f same promise h d =
         let z = message-sized f promise h q p after in
         says (z .stored) (z .end) (z .reads) ∙ sized-row _ _ _ _ z
 
-    pub row-union : (declared : Bool) → k ≡ 4 → (r : Row) → ((z : Stored) (n : ℕ) → read storedAt s body ≡ done z n → numbers r ≡ sizeRow (sizeIn z))
-        → RowIs s starts i declared r
-    row-union declared q r says f promise h d =
+    pub row-union : (ed : Edition) (declared : Bool) → k ≡ 4 → (r : Row) → ((z : Stored) (n : ℕ) → read storedAt s body ≡ done z n → numbers r ≡ sizeRow (sizeIn z))
+        → RowIs s starts ed i declared r
+    row-union ed declared q r says f same promise h d =
         let z = union-sized f promise h q in
         says (z .stored) (z .end) (z .reads) ∙ sized-row _ _ _ _ z
 
-    pub row-enum : (declared : Bool) → k ≡ 2 → (w : ℕ) → ((ed : Edition) (e : Enum) (n : ℕ) → read (enumAt ed) s body ≡ done e n → w ≡ cond declared (enumBits e) (e .storedBits))
-        → RowIs s starts i declared (record { kind = 4; a = w; b = 0 })
+    pub row-enum : (ed : Edition) (declared : Bool) → k ≡ 2 → (w : ℕ) → ((e : Enum) (n : ℕ) → read (enumAt ed) s body ≡ done e n → w ≡ cond declared (enumBits e) (e .storedBits))
+        → RowIs s starts ed i declared (record { kind = 4; a = w; b = 0 })
     unfolding slotBodyAt
-    row-enum declared q w says f promise h d =
+    row-enum ed declared q w says f same promise h d =
         let m = held enum (enumAt (f .edition)) f promise h (rw q) .1 in
-        enum-row (schemaOf (f .edition) s) i (brought (schemaOf (f .edition) s)) (m .held) declared w d (says (f .edition) (m .held) _ (m .reads))
+        enum-row (schemaOf (f .edition) s) i (brought (schemaOf (f .edition) s)) (m .held) declared w d (says (m .held) _ (ap (λ (x : Edition). read (enumAt x) s body) (sym same) ∙ m .reads))
         ∙ ap (slotRow (schemaOf (f .edition) s) (brought (schemaOf (f .edition) s)) i) (sym (m .slotIs))
 
-    pub row-flags : (declared : Bool) → k ≡ 3 → (w : ℕ) → ((ed : Edition) (f : Flags) (n : ℕ) → read (flagsAt ed) s body ≡ done f n → w ≡ cond declared (flagsBytes f) (f .storedBytes))
-        → RowIs s starts i declared (record { kind = 5; a = w; b = 0 })
+    pub row-flags : (ed : Edition) (declared : Bool) → k ≡ 3 → (w : ℕ) → ((f : Flags) (n : ℕ) → read (flagsAt ed) s body ≡ done f n → w ≡ cond declared (flagsBytes f) (f .storedBytes))
+        → RowIs s starts ed i declared (record { kind = 5; a = w; b = 0 })
     unfolding slotBodyAt
-    row-flags declared q w says f promise h d =
+    row-flags ed declared q w says f same promise h d =
         let m = held flags (flagsAt (f .edition)) f promise h (rw q) .1 in
-        flags-row (schemaOf (f .edition) s) i (brought (schemaOf (f .edition) s)) (m .held) declared w d (says (f .edition) (m .held) _ (m .reads))
+        flags-row (schemaOf (f .edition) s) i (brought (schemaOf (f .edition) s)) (m .held) declared w d (says (m .held) _ (ap (λ (x : Edition). read (flagsAt x) s body) (sym same) ∙ m .reads))
         ∙ ap (slotRow (schemaOf (f .edition) s) (brought (schemaOf (f .edition) s)) i) (sym (m .slotIs))
 
-    pub row-blank : (declared : Bool) → ¬ (k ≡ 1) → ¬ (k ≡ 2) → ¬ (k ≡ 3) → ¬ (k ≡ 4) → (r : Row) → numbers r ≡ row 0 0 0 → RowIs s starts i declared r
-    row-blank declared a b c d r e f promise h m =
+    pub row-blank : (ed : Edition) (declared : Bool) → ¬ (k ≡ 1) → ¬ (k ≡ 2) → ¬ (k ≡ 3) → ¬ (k ≡ 4) → (r : Row) → numbers r ≡ row 0 0 0 → RowIs s starts ed i declared r
+    row-blank ed declared a b c d r e f same promise h m =
         let q = part-behind s starts f promise i h k body part .kindIs in
         e ∙ blank-row (schemaOf (f .edition) s) i (brought (schemaOf (f .edition) s)) (slotOf (schemaOf (f .edition) s) i) (λ x. a (sym q ∙ x)) (λ x. b (sym q ∙ x)) (λ x. c (sym q ∙ x)) (λ x. d (sym q ∙ x))

@@ -64,3 +64,7 @@ module _ {A B : Type 0} (F : A → List ℕ → B) (role : Role) (limit : ℕ) (
         let z : left ≡ 0 = omega arith in
         let w = t xs n e in
         w .2 ∙ ap (F a) (sym (given (rw z at (w .1)) .0))
+
+    pub run-end : left ≤ 0 → (xs : List ℕ) (n : ℕ) → read (many count (number role limit)) s at ≡ done xs n → p ≡ n
+    unfolding many read
+    run-end h xs n e = let z : left ≡ 0 = omega arith in given (rw z at (t xs n e .1)) .1

@@ -7,7 +7,7 @@ use borrow.Author.Tests.{le-leb, lt-leb}
 use lib.Count.{leadingZeros}
 use lib.ListN.{getD, List·getD-eq-default}
 use Rattle.slot.specs.Slot.{Enum}
-use Rattle.sizes.specs.Widths.{highest, leastBits, bitLength, ordinalBits, enumBits, bytesTo, bit-length-is}
+use Rattle.sizes.specs.Widths.{highest, topOf, leastBits, bitLength, ordinalBits, enumBits, bytesTo, bit-length-is}
 
 -- one more number of a run
 pub highest-first : (top v top′ : ℕ) → top′ ≡ max top v → (ns : List ℕ) → highest top (v ∷ ns) ≡ highest top′ ns
@@ -41,7 +41,7 @@ module _ (n : ℕ) where
 
 -- an enum without a backing
 pub by-ordinals : (x top least r : ℕ) → least ≡ leastBits x → r ≡ max least (64 - leadingZeros 64 top)
-    → (e : Enum) → e .backing ≡ 0 → e .nonExhaustive ≡ x → highest 0 (e .ordinals .live) ≡ top → r ≡ enumBits e
+    → (e : Enum) → e .backing ≡ 0 → e .nonExhaustive ≡ x → topOf (e .ordinals) ≡ top → r ≡ enumBits e
 unfolding enumBits ordinalBits
 by-ordinals x top least r p q e b n h =
     let l : 64 - leadingZeros 64 top ≡ bitLength top = omega (arith, bit-length-is top) in
@@ -55,4 +55,4 @@ by-backing k r q e b = q ∙ rw b
 -- there are no others
 pub no-backing : (b : ℕ) → 5 ≤ b → (e : Enum) → e .backing ≡ b → 0 ≡ enumBits e
 unfolding enumBits
-no-backing b h e q = rw q (sym (List·getD-eq-default (ordinalBits (e .nonExhaustive) (e .ordinals .live) ∷ 8 ∷ 16 ∷ 32 ∷ 64 ∷ []) 0 {n = b} h))
+no-backing b h e q = rw q (sym (List·getD-eq-default (ordinalBits (e .nonExhaustive) (e .ordinals) ∷ 8 ∷ 16 ∷ 32 ∷ 64 ∷ []) 0 {n = b} h))

@@ -3,6 +3,7 @@ use graph::Lowest;
 use image::Frame;
 use number::Number;
 use sizes::Size;
+use slot::Edition;
 use view::Part;
 ghost use mathlib.Core.Path.{_≡_};
 ghost use mathlib.Core.List.{List};
@@ -11,15 +12,14 @@ ghost use mathlib.Core.Option.{some};
 ghost use Prim.Native.Nat.{ℕ, _+_, _*_, _≤_, _^_, max};
 ghost use lib.ListN.{length, set};
 ghost use lib.Seq.{sets};
-ghost use Rattle.number.specs.Grammar.{slot, value, number, many, done, read};
+ghost use Rattle.number.specs.Grammar.{slot, value, number, many, counted, done, read};
 ghost use Rattle.slot.specs.Field.{Span, spanAt, Stored, storedAt};
 ghost use Rattle.slot.specs.Slot.{Ordinals, ordinalsAt, Enum, enumAt, Flags, flagsAt};
-ghost use Rattle.slot.specs.declared.Edition.{Edition};
 ghost use Rattle.reader.specs.Reading.{schemaOf};
 ghost use Rattle.reader.specs.Promise.{Promise};
-ghost use Rattle.sizes.specs.Widths.{highest, leastBits, enumBits, bytesTo, flagsBytes};
+ghost use Rattle.sizes.specs.Widths.{topOf, leastBits, enumBits, bytesTo, flagsBytes};
 ghost use Rattle.sizes.specs.Check.{row, sizeIn, isThere, sizeRow, brought, storedSlot, tableOf};
-ghost use Rattle.rows.specs.Rows.{numbers, Takes, Marked, RowIs, BringsIs, Known, Ready};
+ghost use Rattle.rows.specs.Rows.{numbers, Takes, Tops, Marked, RowIs, BringsIs, Known, Ready};
 
 // A number of an accepted image, and the position after it. Such an image has a number wherever one is taken.
 struct Taken {
@@ -42,28 +42,45 @@ fn larger(a: u64, b: u64) -> u64
     if a < b { b } else { a }
 }
 
-// The highest of a run of numbers, 0 if there is none.
-fn highest_of(image: &[u8], at: usize, count: u64) -> u64
-    ensures { λ r. ⌜ ((os : List ℕ) (n : ℕ) → read (many count (number value (2 ^ 32))) (now (image .entry)) at ≡ done os n → r ≡ highest 0 os) ⌝ }
+// The highest of a run of numbers and a start value, and the position after the run.
+fn highest_of(image: &[u8], at: usize, count: u64, start: u64) -> Taken
+    ensures { λ r. ⌜ Tops (many count (number value (2 ^ 32))) (now (image .entry)) at start (r .value) (r .next) ⌝ }
 {
     let mut left = count;
     let mut p = at;
-    let mut top: u64 = 0;
+    let mut top = start;
     while 0 < left {
         let ordinal = take(image, p);
         top = larger(top, ordinal.value);
         p = ordinal.next;
         left -= 1;
     }
-    top
+    Taken {
+        value: top,
+        next: p,
+    }
 }
 
-// One place takes the highest ordinal of an enum and the highest bit of a flags type.
-fn highest_ordinal(image: &[u8], at: usize) -> u64
-    ensures { λ r. ⌜ ((ed : Edition) (os : Ordinals) (n : ℕ) → read (ordinalsAt ed) (now (image .entry)) at ≡ done os n → r ≡ highest 0 (os .live)) ⌝ }
+// The same of a list with its count.
+fn highest_counted(image: &[u8], at: usize, start: u64) -> Taken
+    ensures { λ r. ⌜ Tops (counted (number value (2 ^ 32))) (now (image .entry)) at start (r .value) (r .next) ⌝ }
 {
     let count = take(image, at);
-    highest_of(image, count.next, count.value)
+    highest_of(image, count.next, count.value, start)
+}
+
+// One place takes the highest ordinal of an enum and the highest bit of a flags type, live or retired.
+fn highest_ordinal(image: &[u8], at: usize, edition: Edition) -> u64
+    ensures { λ r. ⌜ ((os : Ordinals) (n : ℕ) → read (ordinalsAt edition) (now (image .entry)) at ≡ done os n → r ≡ topOf os) ⌝ }
+{
+    let live = highest_counted(image, at, 0);
+    match edition {
+        Edition::One => live.value,
+        Edition::Two => {
+            let both = highest_counted(image, live.next, live.value);
+            both.value
+        }
+    }
 }
 
 fn least_bits(non_exhaustive: u64) -> u64
@@ -77,7 +94,7 @@ fn least_bits(non_exhaustive: u64) -> u64
 
 // The bits of an enum, by its backing and its highest ordinal. There is no backing past the fourth.
 fn compute_enum_wire_bits(backing: u64, non_exhaustive: u64, top: u64) -> u64
-    ensures { λ r. ⌜ ((e : Enum) → e .backing ≡ backing → e .nonExhaustive ≡ «non_exhaustive» → highest 0 (e .ordinals .live) ≡ top → r ≡ enumBits e) ⌝ }
+    ensures { λ r. ⌜ ((e : Enum) → e .backing ≡ backing → e .nonExhaustive ≡ «non_exhaustive» → topOf (e .ordinals) ≡ top → r ≡ enumBits e) ⌝ }
 {
     match backing {
         0 => larger(
@@ -105,14 +122,14 @@ fn compute_flags_wire_bytes(top: u64) -> u64
 }
 
 // An undeclared enum keeps the width that is stored.
-fn enum_bits(image: &[u8], at: usize, declared: bool) -> u64
-    ensures { λ r. ⌜ ((ed : Edition) (e : Enum) (n : ℕ) → read (enumAt ed) (now (image .entry)) at ≡ done e n → r ≡ cond declared (enumBits e) (e .storedBits)) ⌝ }
+fn enum_bits(image: &[u8], at: usize, edition: Edition, declared: bool) -> u64
+    ensures { λ r. ⌜ ((e : Enum) (n : ℕ) → read (enumAt edition) (now (image .entry)) at ≡ done e n → r ≡ cond declared (enumBits e) (e .storedBits)) ⌝ }
 {
     let backing = take(image, at);
     let non_exhaustive = take(image, backing.next);
     let stored = take(image, non_exhaustive.next);
     if declared {
-        let top = highest_ordinal(image, stored.next);
+        let top = highest_ordinal(image, stored.next, edition);
         compute_enum_wire_bits(backing.value, non_exhaustive.value, top)
     } else {
         stored.value
@@ -120,12 +137,12 @@ fn enum_bits(image: &[u8], at: usize, declared: bool) -> u64
 }
 
 // So does a flags type.
-fn flags_bytes(image: &[u8], at: usize, declared: bool) -> u64
-    ensures { λ r. ⌜ ((ed : Edition) (f : Flags) (n : ℕ) → read (flagsAt ed) (now (image .entry)) at ≡ done f n → r ≡ cond declared (flagsBytes f) (f .storedBytes)) ⌝ }
+fn flags_bytes(image: &[u8], at: usize, edition: Edition, declared: bool) -> u64
+    ensures { λ r. ⌜ ((f : Flags) (n : ℕ) → read (flagsAt edition) (now (image .entry)) at ≡ done f n → r ≡ cond declared (flagsBytes f) (f .storedBytes)) ⌝ }
 {
     let stored = take(image, at);
     if declared {
-        compute_flags_wire_bytes(highest_ordinal(image, stored.next))
+        compute_flags_wire_bytes(highest_ordinal(image, stored.next, edition))
     } else {
         stored.value
     }
@@ -217,20 +234,20 @@ fn after_span(image: &[u8], at: usize) -> usize
 }
 
 // The row of slot i.
-fn slot_row(image: &[u8], starts: &[usize], i: usize, declared: bool) -> Row
-    ensures { λ r. ⌜ RowIs (now (image .entry)) (now (starts .entry)) i declared r ⌝ }
+fn slot_row(image: &[u8], starts: &[usize], edition: Edition, i: usize, declared: bool) -> Row
+    ensures { λ r. ⌜ RowIs (now (image .entry)) (now (starts .entry)) edition i declared r ⌝ }
 {
     match view::slot_part(image, starts, i) {
         Part::At(kind, body) => match kind {
             1 => stored_row(image, after_span(image, body)),
             2 => Row {
                 kind: 4,
-                a: enum_bits(image, body, declared),
+                a: enum_bits(image, body, edition, declared),
                 b: 0,
             },
             3 => Row {
                 kind: 5,
-                a: flags_bytes(image, body, declared),
+                a: flags_bytes(image, body, edition, declared),
                 b: 0,
             },
             4 => stored_row(image, body),
@@ -308,9 +325,10 @@ fn put_rows(image: &[u8], starts: &[usize], frame: Frame, declared: &[bool], row
     requires { ⌜ Known (now image) (now starts) frame (now declared) (now rows) ⌝ }
     ensures { λ _. ⌜ now (rows .exit) ≡ sets (now (rows .entry)) 0 (tableOf (schemaOf (frame .edition) (now (image .entry))) (brought (schemaOf (frame .edition) (now (image .entry))))) ⌝ }
 {
+    let edition = frame.edition;
     let mut i: usize = 0;
     while (i as u64) < frame.slots {
-        let row = slot_row(image, starts, i, declared[i]);
+        let row = slot_row(image, starts, edition, i, declared[i]);
         put_row(rows, i, row);
         i += 1;
     }

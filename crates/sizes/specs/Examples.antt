@@ -7,7 +7,7 @@ use Rattle.tree.specs.Encoding.{Encoding, default, varint, delta}
 use Rattle.slot.specs.Field.{Field, Stored}
 use Rattle.slot.specs.Slot.{Slot, message, enum, flags, union, newtype}
 use Rattle.image.specs.Schema.{Schema, slotOf}
-use Rattle.sizes.specs.Widths.{highest, digits, bitLength, ordinalBits, enumBits, bytesTo, flagsBytes, has, enumBitsAt, flagsBytesAt}
+use Rattle.sizes.specs.Widths.{highest, topOf, digits, bitLength, ordinalBits, enumBits, bytesTo, flagsBytes, has, enumBitsAt, flagsBytesAt}
 use Rattle.sizes.specs.Sizes.{Layout, Packed, Aligned, limited, then, refusalOf, primitiveBits, semanticBits, leafSize, wrapSize, typeSize, varintEnd, zigZagEnd, encodedSize, fieldSize, addFields, addVariants, unionSize}
 use Rattle.sizes.specs.Names.{contentIn, contentOf, contentSize, nameRule, nameWithin, nameSize}
 use Rattle.sizes.specs.Check.{brought, bodySize, ownSize, store, Checked, accepted, refused, storing, turn, onward, turns, checkSizes, row, slotRow, rowsFrom, tableOf}
@@ -56,14 +56,20 @@ a-union vs = union (record { stored = Stored.none; variants = vs })
 abbrev pub a-newtype : Tree → Slot
 a-newtype t = newtype (record { inner = t; terminal = t })
 
+abbrev pub held-enum : (backing nonExhaustive bits : ℕ) → (live retired : List ℕ) → Slot
+held-enum b x w os rs = enum (record { backing = b; nonExhaustive = x; storedBits = w; ordinals = record { live = os; retired = rs } })
+
+abbrev pub held-flags : (bytes : ℕ) → (live retired : List ℕ) → Slot
+held-flags w os rs = flags (record { storedBytes = w; bits = record { live = os; retired = rs } })
+
 abbrev pub an-enum : (nonExhaustive : ℕ) → List ℕ → Slot
-an-enum x os = enum (record { backing = 0; nonExhaustive = x; storedBits = 0; ordinals = record { live = os; retired = [] } })
+an-enum x os = held-enum 0 x 0 os []
 
 abbrev pub stored-enum : (bits : ℕ) → List ℕ → Slot
-stored-enum b os = enum (record { backing = 0; nonExhaustive = 0; storedBits = b; ordinals = record { live = os; retired = [] } })
+stored-enum b os = held-enum 0 0 b os []
 
 abbrev pub some-flags : List ℕ → Slot
-some-flags bs = flags (record { storedBytes = 0; bits = record { live = bs; retired = [] } })
+some-flags bs = held-flags 0 bs []
 
 abbrev pub bool : Tree
 bool = leaf (primitive 0)
@@ -151,7 +157,7 @@ others =
     ∷ []
 
 pub others-hold : answered Packed others ≡ said others
-unfolding checkSizes turns turn onward ownSize bodySize storing store brought nameSize nameWithin nameRule contentSize contentOf contentIn slotOf typeSize leafSize wrapSize then limited primitiveBits semanticBits varintEnd zigZagEnd encodedSize fieldSize addFields addVariants unionSize tableOf rowsFrom slotRow enumBitsAt flagsBytesAt enumBits flagsBytes ordinalBits bitLength digits highest bytesTo has
+unfolding checkSizes turns turn onward ownSize bodySize storing store brought nameSize nameWithin nameRule contentSize contentOf contentIn slotOf typeSize leafSize wrapSize then limited primitiveBits semanticBits varintEnd zigZagEnd encodedSize fieldSize addFields addVariants unionSize tableOf rowsFrom slotRow enumBitsAt flagsBytesAt enumBits flagsBytes ordinalBits topOf bitLength digits highest bytesTo has
 others-hold = refl
 
 -- ## The first step that passes the limit
@@ -214,7 +220,7 @@ boardLines =
     ∷ []
 
 pub board-lines-hold : answered Aligned boardLines ≡ said boardLines
-unfolding checkSizes turns turn onward ownSize bodySize storing store brought nameSize nameWithin nameRule contentSize contentOf contentIn slotOf typeSize leafSize wrapSize then limited primitiveBits semanticBits varintEnd zigZagEnd encodedSize fieldSize addFields addVariants unionSize tableOf rowsFrom slotRow enumBitsAt has enumBits ordinalBits bitLength digits highest
+unfolding checkSizes turns turn onward ownSize bodySize storing store brought nameSize nameWithin nameRule contentSize contentOf contentIn slotOf typeSize leafSize wrapSize then limited primitiveBits semanticBits varintEnd zigZagEnd encodedSize fieldSize addFields addVariants unionSize tableOf rowsFrom slotRow enumBitsAt has enumBits ordinalBits topOf bitLength digits highest
 board-lines-hold = refl
 
 -- the last of them on the ordinary layout
@@ -224,3 +230,48 @@ unrounded = shows (all (of (fixedArray (slot 1) (2 ^ 60) ∷ []) ∷ of (bool �
 pub unrounded-holds : answered Packed unrounded ≡ said unrounded
 unfolding checkSizes turns turn onward ownSize bodySize storing store brought nameSize nameWithin nameRule contentSize contentOf contentIn slotOf typeSize leafSize wrapSize then limited primitiveBits semanticBits varintEnd zigZagEnd encodedSize fieldSize addFields addVariants unionSize tableOf rowsFrom slotRow
 unrounded-holds = refl
+
+-- ## Retired ones
+
+-- no backing, not non_exhaustive
+abbrev retiring : (live retired : List ℕ) → Slot
+retiring os rs = held-enum 0 0 0 os rs
+
+abbrev pub retiredLines : List Line
+retiredLines =
+    -- none live: the highest of the retired; none at all: 1 bit
+    shows (all (retiring [] (256 ∷ []) ∷ retiring [] [] ∷ [])) (row 4 9 0 ++ row 4 1 0)
+    -- the highest of both, whichever list has it
+    ∷ shows (all (retiring (3 ∷ []) (4 ∷ 200 ∷ 5 ∷ []) ∷ retiring (200 ∷ []) (3 ∷ []) ∷ [])) (row 4 8 0 ++ row 4 8 0)
+    -- non_exhaustive: at least 8 over the highest of both
+    ∷ shows (all (held-enum 0 1 0 (3 ∷ []) (255 ∷ []) ∷ held-enum 0 1 0 (3 ∷ []) (256 ∷ []) ∷ held-enum 0 1 0 [] (1 ∷ []) ∷ []))
+    (row 4 8 0 ++ row 4 9 0 ++ row 4 8 0)
+    -- a backing has its own width
+    ∷ shows (all (held-enum 1 0 0 [] (256 ∷ []) ∷ held-enum 2 1 0 (3 ∷ []) (65536 ∷ []) ∷ [])) (row 4 8 0 ++ row 4 16 0)
+    -- flags at each step
+    ∷ shows (all (held-flags 0 [] [] ∷ held-flags 0 [] (7 ∷ []) ∷ held-flags 0 [] (8 ∷ []) ∷ held-flags 0 (7 ∷ []) (15 ∷ []) ∷ []))
+    (row 5 1 0 ++ row 5 1 0 ++ row 5 2 0 ++ row 5 2 0)
+    ∷ shows (all (held-flags 0 (8 ∷ []) (16 ∷ []) ∷ held-flags 0 [] (31 ∷ []) ∷ held-flags 0 (31 ∷ []) (32 ∷ []) ∷ held-flags 0 (31 ∷ []) (8 ∷ []) ∷ []))
+    (row 5 4 0 ++ row 5 4 0 ++ row 5 8 0 ++ row 5 4 0)
+    -- an undeclared slot shows what is stored, and its names use that
+    ∷ shows (declaring (1 ∷ []) (held-enum 0 0 5 (0 ∷ []) (256 ∷ []) ∷ of (slot 0 ∷ []) ∷ [])) (row 4 5 0 ++ row 1 5 5)
+    ∷ shows (declaring (1 ∷ []) (held-flags 3 (0 ∷ []) (32 ∷ []) ∷ of (slot 0 ∷ []) ∷ [])) (row 5 3 0 ++ row 1 24 24)
+    -- sizes with a declared one use its width, declared before it or after
+    ∷ shows (all (of (slot 1 ∷ wrap optional (slot 1) ∷ []) ∷ retiring (0 ∷ []) (256 ∷ []) ∷ a-union (each (slot 1 ∷ []) ∷ []) ∷ []))
+    (row 2 10 19 ++ row 4 9 0 ++ row 2 17 17)
+    -- and may pass the limit by it
+    ∷ shows (all (of (fixedArray (slot 1) (2 ^ 60 - 1) ∷ []) ∷ retiring (0 ∷ []) (255 ∷ []) ∷ [])) (row 1 (2 ^ 63 - 8) (2 ^ 63 - 8) ++ row 4 8 0)
+    ∷ refuses (all (of (fixedArray (slot 1) (2 ^ 60 - 1) ∷ []) ∷ retiring (0 ∷ []) (256 ∷ []) ∷ [])) 14 0
+    ∷ []
+
+pub retired-lines-hold : answered Packed retiredLines ≡ said retiredLines
+unfolding checkSizes turns turn onward ownSize bodySize storing store brought nameSize nameWithin nameRule contentSize contentOf contentIn slotOf typeSize leafSize wrapSize then limited primitiveBits semanticBits varintEnd zigZagEnd encodedSize fieldSize addFields addVariants unionSize tableOf rowsFrom slotRow enumBitsAt flagsBytesAt enumBits flagsBytes ordinalBits topOf bitLength digits highest bytesTo has
+retired-lines-hold = refl
+
+-- 9 bits take two bytes on the head board
+abbrev pub retiredOnBoard : List Line
+retiredOnBoard = shows (all (of (slot 1 ∷ slot 1 ∷ []) ∷ retiring (0 ∷ []) (256 ∷ []) ∷ [])) (row 1 32 32 ++ row 4 9 0) ∷ []
+
+pub retired-on-board-holds : answered Aligned retiredOnBoard ≡ said retiredOnBoard
+unfolding checkSizes turns turn onward ownSize bodySize storing store brought nameSize nameWithin nameRule contentSize contentOf contentIn slotOf typeSize leafSize wrapSize then limited primitiveBits semanticBits varintEnd zigZagEnd encodedSize fieldSize addFields addVariants unionSize tableOf rowsFrom slotRow enumBitsAt has enumBits ordinalBits topOf bitLength digits highest
+retired-on-board-holds = refl

@@ -16,5 +16,5 @@ pub mod Turns
 pub mod Fixed
 pub mod Table
 pub mod Whole
-pub mod Without
+pub mod Changed
 pub mod Examples

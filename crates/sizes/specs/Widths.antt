@@ -7,7 +7,7 @@ use mathlib.Core.List.{List, [], _∷_}
 use lib.Count.{leadingZeros}
 use lib.ListN.{getD}
 use lib.Dec.{leb}
-use Rattle.slot.specs.Slot.{Enum, Flags}
+use Rattle.slot.specs.Slot.{Ordinals, Enum, Flags}
 unfoldable pub use Rattle.graph.specs.Ways.{has}
 use Rattle.image.specs.Schema.{Schema}
 
@@ -15,6 +15,10 @@ use Rattle.image.specs.Schema.{Schema}
 unfoldable pub highest : (start : ℕ) → List ℕ → ℕ
 highest start [] = start
 highest start (n ∷ ns) = highest (max start n) ns
+
+-- the highest of the live and the retired together, 0 if there is none; edition one has none retired
+unfoldable pub topOf : Ordinals → ℕ
+topOf o = highest (highest 0 (o .live)) (o .retired)
 
 -- how often a number can be halved before it is 0, `most` times at most
 unfoldable pub digits : (most number : ℕ) → ℕ
@@ -32,12 +36,12 @@ leastBits zero = 1
 leastBits (suc x) = 8
 
 -- without a backing the bit length of the highest ordinal, but at least these bits
-unfoldable pub ordinalBits : (nonExhaustive : ℕ) → (ordinals : List ℕ) → ℕ
-ordinalBits x os = max (leastBits x) (bitLength (highest 0 os))
+unfoldable pub ordinalBits : (nonExhaustive : ℕ) → Ordinals → ℕ
+ordinalBits x os = max (leastBits x) (bitLength (topOf os))
 
 -- by the backing: none, U8, U16, U32, U64
 unfoldable pub enumBits : Enum → ℕ
-enumBits e = getD (ordinalBits (e .nonExhaustive) (e .ordinals .live) ∷ 8 ∷ 16 ∷ 32 ∷ 64 ∷ []) (e .backing) 0
+enumBits e = getD (ordinalBits (e .nonExhaustive) (e .ordinals) ∷ 8 ∷ 16 ∷ 32 ∷ 64 ∷ []) (e .backing) 0
 
 -- highest bit 0 to 7 gives 1 byte, 8 to 15 gives 2, 16 to 31 gives 4, above gives 8
 unfoldable pub bytesTo : (bit : ℕ) → ℕ
@@ -45,7 +49,7 @@ bytesTo n = cond (leb n 7) 1 (cond (leb n 15) 2 (cond (leb n 31) 4 8))
 
 -- none gives 1, as bit 0 does
 unfoldable pub flagsBytes : Flags → ℕ
-flagsBytes f = bytesTo (highest 0 (f .bits .live))
+flagsBytes f = bytesTo (topOf (f .bits))
 
 -- declared slots only: the stored width if the slot is undeclared
 unfoldable pub enumBitsAt : Schema → (slot : ℕ) → Enum → ℕ

@@ -4,7 +4,7 @@ use Prim.Native.Nat.{ℕ}
 use mathlib.Core.List.{List, [], _∷_, _++_, map}
 use Rattle.tree.specs.Tree.{wrap, fixedArray, pair, optional, vec3, resultOf}
 use Rattle.image.specs.Schema.{Schema, slotOf}
-use Rattle.sizes.specs.Widths.{highest, digits, bitLength, ordinalBits, enumBits, bytesTo, flagsBytes, has, enumBitsAt, flagsBytesAt}
+use Rattle.sizes.specs.Widths.{highest, topOf, digits, bitLength, ordinalBits, enumBits, bytesTo, flagsBytes, has, enumBitsAt, flagsBytesAt}
 use Rattle.sizes.specs.declared.Layout.the-variants.{Packed}
 use Rattle.sizes.specs.Sizes.{limited, then, primitiveBits, semanticBits, leafSize, wrapSize, typeSize, varintEnd, zigZagEnd, encodedSize, fieldSize, addFields, addVariants, unionSize}
 use Rattle.sizes.specs.Names.{contentIn, contentOf, contentSize, nameRule, nameWithin, nameSize}
@@ -49,5 +49,5 @@ starred =
     ∷ []
 
 pub starred-hold : map (λ l. checked (l .of)) starred ≡ starred
-unfolding checkSizes turns turn onward ownSize bodySize storing store brought nameSize nameWithin nameRule contentSize contentOf contentIn slotOf typeSize leafSize wrapSize then limited primitiveBits semanticBits varintEnd zigZagEnd encodedSize fieldSize addFields addVariants unionSize tableOf rowsFrom slotRow enumBitsAt flagsBytesAt enumBits flagsBytes ordinalBits bitLength digits highest bytesTo has rowsOf findingsOf endlessOf endlessIn start walkName walkSlot walkVariants walkFields walkType walkLeaf left entered counted conformanceOf
+unfolding checkSizes turns turn onward ownSize bodySize storing store brought nameSize nameWithin nameRule contentSize contentOf contentIn slotOf typeSize leafSize wrapSize then limited primitiveBits semanticBits varintEnd zigZagEnd encodedSize fieldSize addFields addVariants unionSize tableOf rowsFrom slotRow enumBitsAt flagsBytesAt enumBits flagsBytes ordinalBits topOf bitLength digits highest bytesTo has rowsOf findingsOf endlessOf endlessIn start walkName walkSlot walkVariants walkFields walkType walkLeaf left entered counted conformanceOf
 starred-hold = refl

@@ -1,5 +1,7 @@
--- So far edition two changes no answer: an image of it that is read is answered as its schema without limits and retired ones is
--- in edition one, by every entry. Of sizes this holds until they look at either; of findings it stays.
+-- What edition two adds, and what answers know of it. Two images whose schemas differ in limits, and in ordinals or bits that keep
+-- each highest, are answered alike, by every entry, whatever their editions. So an image of edition two is answered as the one whose
+-- retired ones are live, and as the one of edition one that has them live and no limits. Of sizes this holds of limits until they
+-- look at them; of findings it stays.
 use Prim.Native.Nat.{ℕ, _*_}
 use mathlib.Core.Path.{_≡_, refl, sym, ap, ap₂, _∙_}
 use mathlib.Core.List.{List}
@@ -7,99 +9,138 @@ use mathlib.Core.Bool.{cond}
 use lib.Dec.{ltb}
 use lib.ListN.{length, length-map}
 use Rattle.table.specs.Fitted.{fitted}
-use Rattle.slot.specs.declared.Edition.the-variants.{One, Two}
+use Rattle.slot.specs.Slot.{Enum, enum, Flags, flags}
+use Rattle.slot.specs.declared.Edition.{Edition}
+use Rattle.slot.specs.declared.Edition.the-variants.{One}
 use Rattle.graph.specs.Ways.{lowest, ifFound}
 use Rattle.graph.specs.declared.Lowest.{Lowest}
-use Rattle.image.specs.Schema.{Schema}
-use Rattle.image.specs.Without.{slotWithout, without}
+use Rattle.image.specs.Schema.{Schema, slotOf}
+use Rattle.image.specs.Changed.{Change, slotChanged, changed, slot-changed, bare, moved, movedBare}
 use Rattle.image.specs.declared.Frame.{Frame}
 use Rattle.reader.specs.Reading.{readingOf, schemaOf}
 use Rattle.reader.specs.declared.Reading.{Reading}
+use Rattle.reader.proofs.Plain.{plain-one}
 use Rattle.sizes.specs.declared.Layout.{Layout}
+use Rattle.sizes.specs.Widths.{highest, topOf}
 use Rattle.sizes.specs.Names.{State}
 use Rattle.sizes.specs.Check.{Checked, isThere, storedSlot, checkSizes}
 use Rattle.sizes.specs.Check as check
-use Rattle.sizes.specs.Without.{brings-without, sizes-without, table-without}
+use Rattle.sizes.specs.Changed.{top-moved, top-live, KeepsTops, brings-changed, sizes-changed, table-changed}
 use Rattle.turns.specs.Sizing.{layoutOf, gated, verdict, workedIn, sizingIn, sizingOf, rowsIn, onSized, tableBy, sizesOf}
 use Rattle.turns.specs.declared.Entry.{Entry}
 use Rattle.turns.specs.declared.Entry.the-variants.{Ordinary, HeadBoard}
 use Rattle.turns.specs.declared.Sizing.{Sizing}
 use Rattle.findings.specs.Finding.{noted}
 use Rattle.findings.specs.Findings.{findingsOf}
-use Rattle.findings.proofs.Without.{findings-without}
+use Rattle.findings.proofs.Changed.{findings-changed}
 use Rattle.typeck.specs.Check.{judged, verdictIn, verdictOf, onAccepted, sizeTable, findingTable}
 use Rattle.typeck.specs.declared.Verdict.{Verdict}
 
--- an image of each edition, with one answer and the same tables
-pub record Alike (E : Entry) (p q : ℕ) (one two : List ℕ) : Type 0 where
-  pub answer : verdictOf E One p q one ≡ verdictOf E Two p q two
-  pub sizes : sizeTable E One p q one ≡ sizeTable E Two p q two
-  pub findings : findingTable E One p q one ≡ findingTable E Two p q two
+-- ## A schema that is changed
 
-module _ (S : Schema) where
-  slots-without : length (without S .slots) ≡ length (S .slots)
-  unfolding without
-  slots-without = length-map (S .slots) slotWithout
+module _ (c : Change) (keeps : KeepsTops c) (S : Schema) where
+  slots-changed : length (changed c S .slots) ≡ length (S .slots)
+  unfolding changed
+  slots-changed = length-map (S .slots) (slotChanged c)
 
-  rows-without : (c : Checked) → rowsIn (without S) c ≡ rowsIn S c
-  rows-without (check.accepted st) = table-without S st
-  rows-without (check.refused o i) = refl
+  rows-changed : (k : Checked) → rowsIn (changed c S) k ≡ rowsIn S k
+  rows-changed (check.accepted st) = table-changed c keeps S st
+  rows-changed (check.refused o i) = refl
 
-  stored-without : storedSlot (without S) ≡ storedSlot S
+  stored-changed : storedSlot (changed c S) ≡ storedSlot S
   unfolding storedSlot
-  stored-without = ap₂ (λ (n : ℕ) (st : State). lowest (λ i. isThere (st i)) n 0) slots-without (brings-without S)
+  stored-changed = ap₂ (λ (n : ℕ) (st : State). lowest (λ i. isThere (st i)) n 0) slots-changed (brings-changed c S)
 
-  gated-without : (E : Entry) (z : Sizing) → gated E (without S) z ≡ gated E S z
+  gated-changed : (E : Entry) (z : Sizing) → gated E (changed c S) z ≡ gated E S z
   unfolding gated
-  gated-without Ordinary z = refl
-  gated-without HeadBoard z = ap (λ (l : Lowest). ifFound (Sizing.Refused 15) l z) stored-without
+  gated-changed Ordinary z = refl
+  gated-changed HeadBoard z = ap (λ (l : Lowest). ifFound (Sizing.Refused 15) l z) stored-changed
 
-  worked-without : (L : Layout) (p : ℕ) → workedIn L p (without S) ≡ workedIn L p S
+  worked-changed : (L : Layout) (p : ℕ) → workedIn L p (changed c S) ≡ workedIn L p S
   unfolding workedIn
-  worked-without L p =
-      ap₂ (λ (n : ℕ) (c : Checked). cond (ltb p (3 * n)) (Sizing.Refused 10 0) (verdict c)) slots-without (sizes-without S L)
+  worked-changed L p =
+      ap₂ (λ (n : ℕ) (k : Checked). cond (ltb p (3 * n)) (Sizing.Refused 10 0) (verdict k)) slots-changed (sizes-changed c keeps S L)
 
   -- the sizes of an image that is read
-  sizing-without : (E : Entry) (p : ℕ) (f g : Frame) → sizingIn E p (without S) (Reading.Accepted f) ≡ sizingIn E p S (Reading.Accepted g)
+  sizing-changed : (E : Entry) (p : ℕ) (f g : Frame) → sizingIn E p (changed c S) (Reading.Accepted f) ≡ sizingIn E p S (Reading.Accepted g)
   unfolding sizingIn
-  sizing-without E p f g =
-      gated-without E _ ∙ ap (gated E S) (worked-without (layoutOf E) p)
+  sizing-changed E p f g =
+      gated-changed E _ ∙ ap (gated E S) (worked-changed (layoutOf E) p)
 
-  table-by-without : (L : Layout) (p : ℕ) (z : Sizing) → tableBy L p (without S) z ≡ tableBy L p S z
-  table-by-without L p z =
-      ap (λ (c : Checked). fitted p (onSized z (rowsIn (without S) c))) (sizes-without S L)
-      ∙ ap (λ (l : List ℕ). fitted p (onSized z l)) (rows-without (checkSizes L S))
+  table-by-changed : (L : Layout) (p : ℕ) (z : Sizing) → tableBy L p (changed c S) z ≡ tableBy L p S z
+  table-by-changed L p z =
+      ap (λ (k : Checked). fitted p (onSized z (rowsIn (changed c S) k))) (sizes-changed c keeps S L)
+      ∙ ap (λ (l : List ℕ). fitted p (onSized z l)) (rows-changed (checkSizes L S))
 
-  verdict-without : (q : ℕ) (z : Sizing) → verdictIn q (without S) z ≡ verdictIn q S z
+  verdict-changed : (q : ℕ) (z : Sizing) → verdictIn q (changed c S) z ≡ verdictIn q S z
   unfolding verdictIn judged
-  verdict-without q (Sizing.Refused r p) = refl
-  verdict-without q Sizing.Accepted =
-      ap (λ l. cond (ltb q (6 * length l)) (Verdict.Refused 12 0) (Verdict.Accepted (length l))) (findings-without S)
+  verdict-changed q (Sizing.Refused r p) = refl
+  verdict-changed q Sizing.Accepted =
+      ap (λ l. cond (ltb q (6 * length l)) (Verdict.Refused 12 0) (Verdict.Accepted (length l))) (findings-changed c S)
 
--- both are read, and the schema of the first is that of the second without limits and retired ones
-module _ (E : Entry) (p q : ℕ) (one two : List ℕ) (f g : Frame) (readOne : readingOf One one ≡ Reading.Accepted f) (readTwo : readingOf Two two ≡ Reading.Accepted g)
-    (left : schemaOf One one ≡ without (schemaOf Two two)) where
-  abbrev S : Schema
-  S = schemaOf Two two
+-- ## Images
 
-  sizing-alike : sizingOf E One p one ≡ sizingOf E Two p two
-  unfolding sizingOf
-  sizing-alike = ap₂ (sizingIn E p) left readOne ∙ sizing-without S E p f g ∙ ap (sizingIn E p S) (sym readTwo)
+-- two images with one answer and the same tables
+pub record Alike (E : Entry) (p q : ℕ) (ed : Edition) (s : List ℕ) (ed′ : Edition) (s′ : List ℕ) : Type 0 where
+  pub answer : verdictOf E ed p q s ≡ verdictOf E ed′ p q s′
+  pub sizes : sizeTable E ed p q s ≡ sizeTable E ed′ p q s′
+  pub findings : findingTable E ed p q s ≡ findingTable E ed′ p q s′
 
-  sizes-alike : sizesOf E One p one ≡ sizesOf E Two p two
-  unfolding sizesOf
-  sizes-alike = ap₂ (tableBy (layoutOf E) p) left sizing-alike ∙ table-by-without S (layoutOf E) p (sizingOf E Two p two)
+-- both are read
+module _ (E : Entry) (p q : ℕ) (ed ed′ : Edition) (s s′ : List ℕ) (f f′ : Frame) (reads : readingOf ed s ≡ Reading.Accepted f) (reads′ : readingOf ed′ s′ ≡ Reading.Accepted f′) where
+  -- and the schema of the first is that of the second, changed
+  module _ (c : Change) (keeps : KeepsTops c) (same : schemaOf ed s ≡ changed c (schemaOf ed′ s′)) where
+    abbrev S : Schema
+    S = schemaOf ed′ s′
 
-  answer-alike : verdictOf E One p q one ≡ verdictOf E Two p q two
-  unfolding verdictOf
-  answer-alike = ap₂ (verdictIn q) left sizing-alike ∙ verdict-without S q (sizingOf E Two p two)
+    sizing-alike : sizingOf E ed p s ≡ sizingOf E ed′ p s′
+    unfolding sizingOf
+    sizing-alike = ap₂ (sizingIn E p) same reads ∙ sizing-changed c keeps S E p f f′ ∙ ap (sizingIn E p S) (sym reads′)
 
-  pub answered-alike : Alike E p q one two
-  unfolding sizeTable findingTable
-  answered-alike =
-      record {
-        answer = answer-alike;
-        sizes = ap₂ (λ (v : Verdict) (t : List ℕ). onAccepted v p t) answer-alike sizes-alike;
-        findings = ap₂ (λ (v : Verdict) (T : Schema). onAccepted v q (noted q (findingsOf T))) answer-alike left
-            ∙ ap (λ l. onAccepted (verdictOf E Two p q two) q (noted q l)) (findings-without S);
-      }
+    sizes-alike : sizesOf E ed p s ≡ sizesOf E ed′ p s′
+    unfolding sizesOf
+    sizes-alike = ap₂ (tableBy (layoutOf E) p) same sizing-alike ∙ table-by-changed c keeps S (layoutOf E) p (sizingOf E ed′ p s′)
+
+    answer-alike : verdictOf E ed p q s ≡ verdictOf E ed′ p q s′
+    unfolding verdictOf
+    answer-alike = ap₂ (verdictIn q) same sizing-alike ∙ verdict-changed c keeps S q (sizingOf E ed′ p s′)
+
+    pub answered-alike : Alike E p q ed s ed′ s′
+    unfolding sizeTable findingTable
+    answered-alike =
+        record {
+          answer = answer-alike;
+          sizes = ap₂ (λ (v : Verdict) (t : List ℕ). onAccepted v p t) answer-alike sizes-alike;
+          findings = ap₂ (λ (v : Verdict) (T : Schema). onAccepted v q (noted q (findingsOf T))) answer-alike same
+              ∙ ap (λ l. onAccepted (verdictOf E ed′ p q s′) q (noted q l)) (findings-changed c S);
+        }
+
+  -- the retired ones of the second are live in the first
+  pub answered-as-moved : schemaOf ed s ≡ changed moved (schemaOf ed′ s′) → Alike E p q ed s ed′ s′
+  answered-as-moved = answered-alike moved top-moved
+
+  -- and the first has no limits, so that it may be of edition one
+  pub answered-as-one : schemaOf ed s ≡ changed movedBare (schemaOf ed′ s′) → Alike E p q ed s ed′ s′
+  answered-as-one = answered-alike movedBare top-moved
+
+-- ## Edition one
+
+module _ (s : List ℕ) (i : ℕ) where
+  slot-plain : slotChanged bare (slotOf (schemaOf One s) i) ≡ slotOf (schemaOf One s) i
+  slot-plain = sym (slot-changed bare (schemaOf One s) i) ∙ ap (λ (T : Schema). slotOf T i) (plain-one s)
+
+  -- an enum's width goes by its live ordinals alone, as in the Rust
+  pub enum-by-live : (e : Enum) → slotOf (schemaOf One s) i ≡ enum e → topOf (e .ordinals) ≡ highest 0 (e .ordinals .live)
+  unfolding slotChanged
+  enum-by-live e q = top-live (e .ordinals) (ap (λ (y : Enum). y .ordinals .retired) (held (sym (rw q at slot-plain))))
+    where
+      held : {y : Enum} → enum e ≡ enum y → e ≡ y
+      held r = cc
+
+  -- and that of flags by their live bits
+  pub flags-by-live : (g : Flags) → slotOf (schemaOf One s) i ≡ flags g → topOf (g .bits) ≡ highest 0 (g .bits .live)
+  unfolding slotChanged
+  flags-by-live g q = top-live (g .bits) (ap (λ (y : Flags). y .bits .retired) (held (sym (rw q at slot-plain))))
+    where
+      held : {y : Flags} → flags g ≡ flags y → g ≡ y
+      held r = cc

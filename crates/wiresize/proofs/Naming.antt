@@ -29,7 +29,7 @@ use Rattle.sizes.specs.declared.Size.the-variants.{Fixed, Bounded, Open}
 use Rattle.sizes.specs.declared.Worked.{Worked}
 use Rattle.sizes.specs.declared.Worked.the-variants.{Sized}
 use Rattle.sizes.specs.Sizes.{limit, limited, limitedProduct, Resolver, typeSize, fieldsSize, unionSize}
-use Rattle.sizes.specs.Widths.{highest, bytesTo, flagsBytes, flagsBytesAt}
+use Rattle.sizes.specs.Widths.{topOf, bytesTo, flagsBytes, flagsBytesAt}
 use Rattle.sizes.specs.Names.{terminal, anything, contentIn, contentOf, State, Working, inserted, orElse, contentSize, nameRule, nameSize}
 use Rattle.sizes.specs.Check.{sizeRow, slotRow}
 use Rattle.sizes.specs.Fuel.{name-obeys, inserted-is}
@@ -54,8 +54,8 @@ flags-few : (S : Schema) (i : ℕ) (g : Flags) → g .storedBytes ≤ 255 → fl
 unfolding flagsBytesAt flagsBytes
 flags-few S i g h = go (has i (S .declared))
   where
-    go : (b : Bool) → cond b (bytesTo (highest 0 (g .bits .live))) (g .storedBytes) ≤ 255
-    go true = omega (arith, bytes-few (highest 0 (g .bits .live)))
+    go : (b : Bool) → cond b (bytesTo (topOf (g .bits))) (g .storedBytes) ≤ 255
+    go true = omega (arith, bytes-few (topOf (g .bits)))
     go false = h
 
 eight-times : (n : ℕ) → n ≤ 255 → limitedProduct (Fixed (n * 8)) ≡ Sized (Fixed (8 * n))

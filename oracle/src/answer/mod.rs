@@ -3,7 +3,8 @@
 //! Refusals 1 to 9 come from the importer, 11 and 14 from sizes worked out here
 //! in 128 bits, sizes and findings from the upstream check. It knows the packed
 //! layout alone: the sizes of the head board are those worked out here, once
-//! they are the upstream ones where nothing is rounded.
+//! they are the upstream ones where nothing is rounded. Nor does it know retired
+//! ones: for it they are moved behind the live ones.
 
 mod added;
 mod aligned;
@@ -13,7 +14,9 @@ mod fields;
 mod findings;
 mod kinds;
 mod limit;
+pub(crate) mod moved;
 mod parts;
+mod retired;
 mod rounding;
 mod sizes;
 mod steps;
@@ -31,6 +34,7 @@ pub use fields::{each_wanted, Wanted};
 pub use kinds::FieldCounts;
 pub use limit::{Operation, Part, PassedLimit};
 pub use parts::{expression_kind, type_kind, type_parts};
+pub use retired::RetiredCounts;
 pub use steps::{TooLong, PATIENT_STEP_LIMIT};
 pub use whole::{Classes, Unions, Whole};
 

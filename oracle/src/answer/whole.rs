@@ -7,6 +7,7 @@ use super::fields::each_wanted;
 use super::findings::{findings, mark_spans, Finding};
 use super::kinds::FieldCounts;
 use super::limit::PassedLimit;
+use super::moved::move_retired;
 use super::rounding::Rounding;
 use super::sizes::{size_table, Stop};
 use super::steps::{Steps, TooLong, STEP_LIMIT};
@@ -122,11 +123,13 @@ impl Whole {
                 return;
             }
         };
-        // The upstream check packs, so its table is held against the packed one.
+        // The upstream check packs, so its table is held against the packed one; it
+        // knows no retired ones, so for it they are live.
         let packed = match layout {
             Layout::Packed => table.clone(),
             Layout::Aligned => packed_table(&schema, limit),
         };
+        move_retired(&mut schema);
         if with_findings && steps.charge_findings(&schema).is_ok() {
             let spans = mark_spans(&mut schema);
             let diagnostics = check(&mut schema);

@@ -13,6 +13,7 @@ pub mod edges;
 pub mod findings;
 mod first;
 pub mod full;
+mod held;
 mod limits;
 pub mod loops;
 mod matches;
@@ -175,6 +176,7 @@ pub static FAMILIES: &[Family] = &[
     family("bits-over", 3_000, over::bits_over).only(HEAD_BOARD),
     family("rounding", 2_500, rounding::rounded).only(HEAD_BOARD),
     images("brought", 2_000, brought::brought).only(HEAD_BOARD),
+    images("held-widths", 2_500, held::held_widths).only(TWO),
 ];
 
 /// The first families, which the recorded answers of reading are drawn from:

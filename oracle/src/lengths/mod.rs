@@ -1,5 +1,6 @@
 //! Demand 3 tried by enumeration: the lengths of small schemas, by the length
-//! rules of document 01 and never from sizes, beside the rows of size tables. On
+//! rules of document 01 and never from sizes, beside the rows of size tables. In
+//! edition two enums and flags have retired ones, which hold their widths. On
 //! the head board both are rounded, and no sizes are brought.
 
 pub mod clauses;
@@ -12,6 +13,7 @@ mod turns;
 use std::fmt;
 use std::ops::ControlFlow;
 
+use crate::answer::moved::take_out_retired;
 use crate::answer::{Answer, Whole, PROGRAM_PLACES};
 use crate::compare::{each_image, Selection};
 use crate::format::{Edition, Entry, Layout};
@@ -26,6 +28,7 @@ use crate::shrink::shrink;
 use crate::workers::{in_parallel, THREADS};
 use clauses::{Clause, Facts, Proviso, Tally};
 use rules::lengths_of_slots;
+use set::Lengths;
 
 /// Images of the families are taken up to these.
 const MOST_BYTES: usize = 120;
@@ -46,25 +49,17 @@ pub struct Subject {
 /// refuses it.
 #[derive(Clone, Copy)]
 pub enum Table {
-    Rust(Layout),
+    Rust(Entry),
     Sizes(Library),
     Check(Library),
-}
-
-/// The entry of a layout; lengths are those of edition one.
-fn entry(layout: Layout) -> Entry {
-    Entry {
-        edition: Edition::One,
-        layout,
-    }
 }
 
 impl Table {
     fn of(self, image: &[u8], slots: usize) -> Option<Vec<u64>> {
         let mut sizes = vec![0; 3 * slots];
         let verdict = match self {
-            Table::Rust(layout) => {
-                let whole = Whole::sizes_of(image, entry(layout));
+            Table::Rust(entry) => {
+                let whole = Whole::sizes_of(image, entry);
                 return match whole.sizes_answer(3 * slots as u64) {
                     Ok(Answer::Accepted { sizes, .. }) => Some(sizes),
                     _ => None,
@@ -84,16 +79,18 @@ impl Table {
     }
 }
 
-/// The Rust, and the entries of the library that fill a size table of the
-/// layout.
-pub fn subjects(layout: Layout, ours: Option<Library>) -> Vec<Subject> {
+/// The Rust, and the entries of the library that fill a size table of this
+/// edition and layout.
+pub fn subjects(entry: Entry, ours: Option<Library>) -> Vec<Subject> {
     let mut subjects = vec![Subject {
         name: "Rust",
-        table: Table::Rust(layout),
+        table: Table::Rust(entry),
     }];
-    let check_name = match layout {
-        Layout::Packed => "vexil_check",
-        Layout::Aligned => "vexil_check_aligned",
+    let check_name = match (entry.edition, entry.layout) {
+        (Edition::One, Layout::Packed) => "vexil_check",
+        (Edition::One, Layout::Aligned) => "vexil_check_aligned",
+        (Edition::Two, Layout::Packed) => "vexil_check_two",
+        (Edition::Two, Layout::Aligned) => "vexil_check_aligned_two",
     };
     if let Some(ours) = ours {
         let sizes = ours.sizes.map(|_| Table::Sizes(ours));
@@ -130,6 +127,8 @@ pub struct Met {
     pub fixed: u64,
     /// Declared messages and unions that have other lengths packed.
     pub rounded: u64,
+    /// Declared messages and unions that have other lengths without retired ones.
+    pub held: u64,
     pub kinds: [u64; KINDS],
     pub encodings: [u64; ENCODINGS],
 }
@@ -161,12 +160,12 @@ pub struct Summary {
 
 /// Judges the tables of generated small schemas, as many as `count`, and of the
 /// small images among as many of the families.
-pub fn run(count: u64, seed: u64, layout: Layout, subjects: &[Subject]) -> Summary {
+pub fn run(count: u64, seed: u64, entry: Entry, subjects: &[Subject]) -> Summary {
     let parts = in_parallel(|worker| {
         let mut summary = Summary::of(subjects);
         for number in (worker..count).step_by(THREADS as usize) {
-            let image = schema(seed, number, layout).bytes(Edition::One);
-            let flow = run_one(&image, layout, subjects, &mut summary.small);
+            let image = schema(seed, number, entry).bytes(entry.edition);
+            let flow = run_one(&image, entry, subjects, &mut summary.small);
             if let ControlFlow::Break(broken) = flow {
                 summary.broken = Some(broken);
                 return summary;
@@ -176,13 +175,13 @@ pub fn run(count: u64, seed: u64, layout: Layout, subjects: &[Subject]) -> Summa
             count,
             seed,
             families: Families::All,
-            entry: entry(layout),
+            entry,
         };
         each_image(selection, worker, |_, image| {
             if image.len() > MOST_BYTES {
                 return ControlFlow::Continue(());
             }
-            let flow = run_one(image, layout, subjects, &mut summary.families);
+            let flow = run_one(image, entry, subjects, &mut summary.families);
             flow.map_break(|broken| summary.broken = Some(broken))
         });
         summary
@@ -197,9 +196,9 @@ pub fn run(count: u64, seed: u64, layout: Layout, subjects: &[Subject]) -> Summa
 }
 
 /// The schema of this number. The head board takes none that brings sizes.
-pub fn schema(seed: u64, number: u64, layout: Layout) -> Schema {
-    let mut schema = small::small(&mut Random::new(seed, number));
-    if layout == Layout::Aligned {
+pub fn schema(seed: u64, number: u64, entry: Entry) -> Schema {
+    let mut schema = small::small(&mut Random::new(seed, number), entry.edition);
+    if entry.layout == Layout::Aligned {
         bring_nothing(&mut schema);
     }
     schema
@@ -207,22 +206,25 @@ pub fn schema(seed: u64, number: u64, layout: Layout) -> Schema {
 
 fn run_one(
     image: &[u8],
-    layout: Layout,
+    entry: Entry,
     subjects: &[Subject],
     part: &mut Part,
 ) -> ControlFlow<Broken> {
-    let Some(imported) = accepted(image, layout) else {
+    let Some(imported) = accepted(image, entry) else {
         return ControlFlow::Continue(());
     };
-    let facts = Facts::of(&imported.schema, layout);
+    let facts = Facts::of(&imported.schema, entry.layout);
     part.met.count(&imported.schema, &facts);
-    if layout == Layout::Aligned {
+    if entry.layout == Layout::Aligned {
         part.met.count_rounded(&imported.schema, &facts);
+    }
+    if entry.edition == Edition::Two {
+        part.met.count_held(&imported.schema, &facts, entry.layout);
     }
     for (subject, (_, tally)) in subjects.iter().zip(&mut part.tallies) {
         let slots = imported.starts.len();
         if let Some(told) = told(image, &facts, subject, slots, tally) {
-            return ControlFlow::Break(smallest(image, layout, told, subject));
+            return ControlFlow::Break(smallest(image, entry, told, subject));
         }
     }
     ControlFlow::Continue(())
@@ -256,7 +258,7 @@ impl Summary {
 
     /// Counts that are too low for the run to mean much, with what they ought
     /// to be at least.
-    pub fn too_low(&self, count: u64, layout: Layout) -> Vec<String> {
+    pub fn too_low(&self, count: u64, entry: Entry) -> Vec<String> {
         let mut low = Vec::new();
         let mut floor = |what: String, met: u64, one_in: u64| {
             let least = (count / one_in).max(1);
@@ -266,7 +268,7 @@ impl Summary {
         };
         let others = self.families.met.schemas;
         floor("images of families".into(), others, 10);
-        for (what, met, one_in) in self.small.met.floors(layout) {
+        for (what, met, one_in) in self.small.met.floors(entry) {
             floor(what, met, one_in);
         }
         for (subject, tally) in &self.small.tallies {
@@ -276,7 +278,7 @@ impl Summary {
                 let what = format!("{subject}, {clause:?}, within the horizon");
                 floor(what, if known { count } else { 0 }, 1);
             }
-            for &(proviso, one_in) in needed(layout) {
+            for &(proviso, one_in) in needed(entry.layout) {
                 let needed = tally.needed[proviso as usize];
                 floor(format!("{subject}, {proviso:?} needed"), needed, one_in);
             }
@@ -335,9 +337,13 @@ impl Met {
 
     fn count_rounded(&mut self, schema: &CompiledSchema, facts: &Facts) {
         let packed = lengths_of_slots(schema, Layout::Packed);
-        let slots = facts.slots.iter();
-        let rounded = slots.filter(|&&slot| facts.lengths[slot] != packed[slot]);
-        self.rounded += rounded.count() as u64;
+        self.rounded += others(facts, &packed);
+    }
+
+    fn count_held(&mut self, schema: &CompiledSchema, facts: &Facts, layout: Layout) {
+        let mut alone = schema.clone();
+        take_out_retired(&mut alone);
+        self.held += others(facts, &lengths_of_slots(&alone, layout));
     }
 
     fn count_types(&mut self, schema: &CompiledSchema, facts: &Facts) {
@@ -393,7 +399,7 @@ impl Met {
     }
 
     /// What is counted, and once in how many schemas it has to be met.
-    fn floors(&self, layout: Layout) -> Vec<(String, u64, u64)> {
+    fn floors(&self, entry: Entry) -> Vec<(String, u64, u64)> {
         let mut floors = vec![
             ("schemas".into(), self.schemas, 1),
             ("lead back".into(), self.back, 10),
@@ -402,7 +408,7 @@ impl Met {
             ("without lengths".into(), self.without, 20),
             ("Fixed messages".into(), self.fixed, 5),
         ];
-        match layout {
+        match entry.layout {
             // Without sizes that are brought no turn changes what is Fixed.
             Layout::Packed => floors.extend([
                 ("bring sizes".into(), self.brings, 5),
@@ -410,6 +416,9 @@ impl Met {
                 ("Fixed by the last turn".into(), self.moved, 200),
             ]),
             Layout::Aligned => floors.push(("rounded".into(), self.rounded, 2)),
+        }
+        if entry.edition == Edition::Two {
+            floors.push(("held by retired ones".into(), self.held, 50));
         }
         for (kind, &count) in self.kinds.iter().enumerate() {
             floors.push((format!("type kind {kind}"), count, 50));
@@ -433,6 +442,7 @@ impl Met {
             (&mut self.without, other.without),
             (&mut self.fixed, other.fixed),
             (&mut self.rounded, other.rounded),
+            (&mut self.held, other.held),
         ];
         pairs.into_iter().for_each(|(count, more)| *count += more);
         let kinds = self.kinds.iter_mut().zip(other.kinds);
@@ -441,13 +451,20 @@ impl Met {
     }
 }
 
+/// Declared messages and unions whose lengths are not these.
+fn others(facts: &Facts, lengths: &[Lengths]) -> u64 {
+    let slots = facts.slots.iter();
+    let others = slots.filter(|&&slot| facts.lengths[slot] != lengths[slot]);
+    others.count() as u64
+}
+
 /// The image as imported, if the Rust accepts it and does not take too long.
-fn accepted(image: &[u8], layout: Layout) -> Option<Imported> {
-    let imported = import(image, Edition::One).ok()?;
+fn accepted(image: &[u8], entry: Entry) -> Option<Imported> {
+    let imported = import(image, entry.edition).ok()?;
     if imported.starts.len() > MOST_SLOTS {
         return None;
     }
-    Table::Rust(layout).of(image, imported.starts.len())?;
+    Table::Rust(entry).of(image, imported.starts.len())?;
     Some(imported)
 }
 
@@ -466,17 +483,17 @@ fn told(
 }
 
 /// The smallest image found on which a clause is broken, the first one at least.
-fn smallest(image: &[u8], layout: Layout, told_first: String, subject: &Subject) -> Broken {
+fn smallest(image: &[u8], entry: Entry, told_first: String, subject: &Subject) -> Broken {
     let mut smallest = Broken {
         subject: subject.name,
         image: image.to_vec(),
         told: told_first,
     };
     shrink(image, &mut |tried| {
-        let Some(imported) = accepted(tried, layout) else {
+        let Some(imported) = accepted(tried, entry) else {
             return false;
         };
-        let facts = Facts::of(&imported.schema, layout);
+        let facts = Facts::of(&imported.schema, entry.layout);
         let slots = imported.starts.len();
         let Some(told) = told(tried, &facts, subject, slots, &mut Tally::default()) else {
             return false;
@@ -534,6 +551,11 @@ impl fmt::Display for Met {
             self.dangling,
             self.kinds,
             self.encodings
-        )
+        )?;
+        // Edition one has none.
+        match self.held {
+            0 => Ok(()),
+            held => write!(out, "; held by retired ones {held}"),
+        }
     }
 }

@@ -1,6 +1,6 @@
 //! Small schemas whose lengths can be enumerated: few slots, few bits, all
 //! kinds and encodings, loops, repeated and dangling declarations, and sizes
-//! that are brought, true to the lengths or not.
+//! that are brought, true to the lengths or not; in edition two retired ones.
 
 use super::rules::lengths_of_slots;
 use super::set::Lengths;
@@ -9,7 +9,7 @@ use crate::generate::trees::{encoding, WRAPS};
 use crate::import::import;
 use crate::model::{
     field, fixed, live, message, pair, union, wrap, Field, Impl, Schema, Slot, Stored, Tree, BOOL,
-    MAP, RESULT, VEC2,
+    MAP, OPTIONAL, RESULT, VEC2,
 };
 use crate::random::Random;
 
@@ -28,7 +28,7 @@ enum Brings {
     Any,
 }
 
-pub fn small(random: &mut Random) -> Schema {
+pub fn small(random: &mut Random, edition: Edition) -> Schema {
     if random.once_in(12) {
         return taken_again(random);
     }
@@ -40,6 +40,9 @@ pub fn small(random: &mut Random) -> Schema {
         slots: list.collect(),
         declarations: declarations(random, slots),
     };
+    if edition == Edition::Two {
+        retire(random, &mut schema.slots);
+    }
     let brings = random.pick(&[
         Brings::Nothing,
         Brings::Nothing,
@@ -47,7 +50,7 @@ pub fn small(random: &mut Random) -> Schema {
         Brings::Any,
     ]);
     if brings != Brings::Nothing {
-        bring_sizes(random, brings, &mut schema);
+        bring_sizes(random, brings, edition, &mut schema);
     }
     schema
 }
@@ -169,6 +172,26 @@ fn numbers(random: &mut Random, bound: u64) -> Vec<u64> {
     (0..count).map(|_| random.below(bound)).collect()
 }
 
+/// Retired ones, many of them above the live ones, and a field more over each
+/// enum and flags.
+fn retire(random: &mut Random, slots: &mut [Slot]) {
+    for slot in 0..slots.len() {
+        match &mut slots[slot] {
+            Slot::Enum { ordinals, .. } => ordinals.retired = numbers(random, 400),
+            Slot::Flags { bits, .. } => bits.retired = numbers(random, 34),
+            _ => continue,
+        }
+        let named = Tree::Named(slot as u64);
+        let trees = [
+            named.clone(),
+            fixed(named.clone(), 3),
+            wrap(OPTIONAL, named),
+        ];
+        let tree = random.pick(&trees);
+        add_field(random, slot as u64, tree, slots);
+    }
+}
+
 fn fields(random: &mut Random, named: &[u64]) -> Vec<Field> {
     let count = random.pick(&[0, 1, 1, 1, 2, 2, 3]);
     let one = |random: &mut Random| Field {
@@ -212,16 +235,16 @@ fn leaf(random: &mut Random, top: bool, named: &[u64]) -> Tree {
 /// layout takes sizes that are brought. Some slots are
 /// named once more, one without lengths among them, and a slot that brings a
 /// size is often not declared, so that the size is used.
-fn bring_sizes(random: &mut Random, brings: Brings, schema: &mut Schema) {
+fn bring_sizes(random: &mut Random, brings: Brings, edition: Edition, schema: &mut Schema) {
     let slots = schema.slots.len() as u64;
     if random.once_in(4) {
         let slot = random.below(slots);
         schema.slots[slot as usize] = message(slot, vec![field(0, Tree::Named(slot))]);
-        name(random, slot, &mut schema.slots);
+        add_field(random, slot, Tree::Named(slot), &mut schema.slots);
     }
     let slot = random.below(slots);
-    name(random, slot, &mut schema.slots);
-    let Ok(imported) = import(&schema.bytes(Edition::One), Edition::One) else {
+    add_field(random, slot, Tree::Named(slot), &mut schema.slots);
+    let Ok(imported) = import(&schema.bytes(edition), edition) else {
         return;
     };
     let lengths = lengths_of_slots(&imported.schema, Layout::Packed);
@@ -246,8 +269,8 @@ fn bring_sizes(random: &mut Random, brings: Brings, schema: &mut Schema) {
     }
 }
 
-/// A slot is named by one more field of another message, if there is one.
-fn name(random: &mut Random, slot: u64, slots: &mut [Slot]) {
+/// One more field, of a message other than this slot, if there is one.
+fn add_field(random: &mut Random, slot: u64, tree: Tree, slots: &mut [Slot]) {
     let others = slots.iter_mut().enumerate();
     let fields = others.filter_map(|(at, other)| match other {
         Slot::Message { fields, .. } if at as u64 != slot => Some(fields),
@@ -256,7 +279,7 @@ fn name(random: &mut Random, slot: u64, slots: &mut [Slot]) {
     let mut lists: Vec<&mut Vec<Field>> = fields.collect();
     if !lists.is_empty() {
         let list = random.below(lists.len() as u64) as usize;
-        lists[list].push(field(0, Tree::Named(slot)));
+        lists[list].push(field(0, tree));
     }
 }
 

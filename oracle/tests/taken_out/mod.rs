@@ -1,12 +1,24 @@
-//! The edition-one image that is left when limits and retired ones are taken
-//! out of an edition-two image. It goes by the format alone, without the reader
-//! and the writer that it is held against.
+//! Edition-one images made of an edition-two image: the one that is left when
+//! limits and retired ones are taken out, and the one in which retired ones have
+//! moved to the end of the live ones. By the format alone, without the reader and
+//! the writer that they are held against.
 
 /// The image left of an accepted one.
 pub fn taken_out(image: &[u8]) -> Vec<u8> {
+    walked(image, false)
+}
+
+/// The image whose retired ones are live, of an accepted one. It is no longer: two
+/// counts have no fewer bytes than their sum.
+pub fn moved(image: &[u8]) -> Vec<u8> {
+    walked(image, true)
+}
+
+fn walked(image: &[u8], moves: bool) -> Vec<u8> {
     let mut walk = Walk {
         rest: image,
         left: Vec::new(),
+        moves,
     };
     walk.list(Walk::kept);
     walk.list(Walk::slot);
@@ -18,6 +30,8 @@ pub fn taken_out(image: &[u8]) -> Vec<u8> {
 struct Walk<'a> {
     rest: &'a [u8],
     left: Vec<u8>,
+    /// Whether retired ones are moved; else they are taken out.
+    moves: bool,
 }
 
 impl Walk<'_> {
@@ -112,10 +126,19 @@ impl Walk<'_> {
     }
 
     fn ordinals(&mut self) {
-        self.list(Self::kept);
-        for _ in 0..self.out() {
-            self.out();
+        let mut kept = self.items();
+        let retired = self.items();
+        if self.moves {
+            kept.extend(retired);
         }
+        self.left.extend(written(kept.len()));
+        self.left.extend(kept.concat());
+    }
+
+    /// The numbers of a list, as they are written.
+    fn items(&mut self) -> Vec<Vec<u8>> {
+        let count = self.out();
+        (0..count).map(|_| self.number().to_vec()).collect()
     }
 
     /// A type or an expression.
@@ -144,4 +167,14 @@ impl Walk<'_> {
 fn value(number: &[u8]) -> u64 {
     let groups = number.iter().rev();
     groups.fold(0, |value, byte| value << 7 | u64::from(byte & 0x7f))
+}
+
+fn written(mut value: usize) -> Vec<u8> {
+    let mut number = Vec::new();
+    while value > 0x7f {
+        number.push(value as u8 | 0x80);
+        value >>= 7;
+    }
+    number.push(value as u8);
+    number
 }

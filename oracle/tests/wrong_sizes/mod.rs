@@ -3,17 +3,19 @@
 //! For sizes that are not refused.
 
 use oracle::format::Layout;
-use oracle::model::{Field, Schema, Slot, Stored, Tree, ARRAY, MAP, OPTIONAL, SET};
+use oracle::model::{Field, Ordinals, Schema, Slot, Stored, Tree, ARRAY, MAP, OPTIONAL, SET};
 
 macro_rules! cases {
-    ($($case:ident)* ; $($rounding:ident)*) => {
+    ($($case:ident)* ; $($rounding:ident)* ; $($retired:ident)*) => {
         #[derive(Debug, Clone, Copy, PartialEq, Eq)]
-        pub enum Wrong { $($case,)* $($rounding),* }
+        pub enum Wrong { $($case,)* $($rounding,)* $($retired),* }
 
         impl Wrong {
             pub const ALL: &[Wrong] = &[$(Wrong::$case),*];
             /// Wrong on the head board alone.
             pub const OF_ROUNDING: &[Wrong] = &[$(Wrong::$rounding),*];
+            /// Wrong in edition two alone.
+            pub const OF_RETIRED: &[Wrong] = &[$(Wrong::$retired),*];
         }
     };
 }
@@ -39,6 +41,9 @@ cases! {
     NotRounded SmallestNotRounded LargestNotRounded RoundedDown RoundedToNext RoundedToTwoBytes
     FixedNotRounded VariableNotRounded VariantsNotRounded NestedNotRounded LastNotRounded
     TotalsRounded PartsRounded NewtypesRounded EqualEndsFixed
+    ;
+    EnumByLive FlagsByLive ByRetiredAlone NotWithoutLive UndeclaredByRetired BackedByRetired
+    LessThanEight RetiredByCount
 }
 
 /// Wrong, and yet demand 3 holds; the comparison with the Rust tells these. A
@@ -456,22 +461,26 @@ impl Sizes<'_> {
         else {
             unreachable!("asked of enums")
         };
+        let retires = !ordinals.retired.is_empty();
         match self.wrong {
             Wrong::EnumAlwaysComputed => {}
             Wrong::EnumAlwaysStored => return (*bits).into(),
+            Wrong::UndeclaredByRetired if retires => {}
             _ if !self.declared(slot) => return (*bits).into(),
             _ => {}
         }
         let highest = match self.wrong {
             Wrong::EnumByCount => (ordinals.live.len() as u64).saturating_sub(1),
-            _ => ordinals.live.iter().copied().max().unwrap_or(0),
+            _ => self.highest(ordinals, Wrong::EnumByLive),
+        };
+        let bits = u128::from(u64::BITS - highest.leading_zeros());
+        let least = match self.wrong {
+            Wrong::LessThanEight if retires => 1,
+            _ => 1 + 7 * u128::from(*non_exhaustive),
         };
         match backing {
-            0 => {
-                let bits = u64::BITS - highest.leading_zeros();
-                u128::from(bits).max(1 + 7 * u128::from(*non_exhaustive))
-            }
-            width => 4 << width,
+            0 => bits.max(least),
+            width => (4u128 << width).max(self.unless(Wrong::BackedByRetired, 0, bits)),
         }
     }
 
@@ -479,15 +488,34 @@ impl Sizes<'_> {
         let Slot::Flags { bytes, bits } = &self.schema.slots[slot] else {
             unreachable!("asked of flags")
         };
-        if self.is(Wrong::FlagsAlwaysStored) || !self.declared(slot) {
-            return (*bytes).into();
+        let computed = match self.wrong {
+            Wrong::FlagsAlwaysStored => false,
+            Wrong::UndeclaredByRetired if !bits.retired.is_empty() => true,
+            _ => self.declared(slot),
+        };
+        match self.highest(bits, Wrong::FlagsByLive) {
+            _ if !computed => (*bytes).into(),
+            ..=7 => 1,
+            8..=15 => 2,
+            16..=31 => 4,
+            _ => 8,
         }
-        match bits.live.iter().max() {
-            None | Some(..=7) => 1,
-            Some(8..=15) => 2,
-            Some(16..=31) => 4,
-            Some(_) => 8,
+    }
+
+    /// Of live and retired ones; a schema of edition one has none retired.
+    fn highest(&self, ordinals: &Ordinals, by_live: Wrong) -> u64 {
+        let Ordinals {
+            mut live,
+            mut retired,
+        } = ordinals.clone();
+        match self.wrong {
+            wrong if wrong == by_live => retired.clear(),
+            Wrong::NotWithoutLive if live.is_empty() => retired.clear(),
+            Wrong::ByRetiredAlone if !retired.is_empty() => live.clear(),
+            Wrong::RetiredByCount => retired = vec![retired.len() as u64],
+            _ => {}
         }
+        live.into_iter().chain(retired).max().unwrap_or(0)
     }
 }
 

@@ -12,5 +12,5 @@ enum-bits-spec =
     (λ c κs. search needs)
     (λ c κs. search needs)
     (λ c κs. search needs)
-    (λ c. enum-worked _ _ _ _ _ _ _ _ (c .before .before .before .before .before .take .ensures) (c .before .before .before .before .take2 .ensures) (c .before .before .before .take3 .ensures) _ (c .before .before .if1 .taken) _ (c .before .highest-ordinal .ensures) _ (c .compute-enum-wire-bits .ensures))
-    (λ c. enum-stored _ _ _ _ _ _ _ _ (c .before .before .before .take .ensures) (c .before .before .take2 .ensures) (c .before .take3 .ensures) _ (c .if1 .left)))
+    (λ c. enum-worked _ _ _ _ _ _ _ _ _ (c .before .before .before .before .before .take .ensures) (c .before .before .before .before .take2 .ensures) (c .before .before .before .take3 .ensures) _ (c .before .before .if1 .taken) _ (c .before .highest-ordinal .ensures) _ (c .compute-enum-wire-bits .ensures))
+    (λ c. enum-stored _ _ _ _ _ _ _ _ _ (c .before .before .before .take .ensures) (c .before .before .take2 .ensures) (c .before .take3 .ensures) _ (c .if1 .left)))

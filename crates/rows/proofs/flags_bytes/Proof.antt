@@ -10,5 +10,5 @@ flags-bytes-spec =
     (λ c κs. search needs)
     (λ c κs. search needs)
     (λ c κs. search needs)
-    (λ c. flags-worked _ _ _ _ (c .before .before .before .take .ensures) _ (c .before .before .if1 .taken) _ (c .before .highest-ordinal .ensures) _ (c .compute-flags-wire-bytes .ensures))
-    (λ c. flags-stored _ _ _ _ (c .before .take .ensures) _ (c .if1 .left)))
+    (λ c. flags-worked _ _ _ _ _ (c .before .before .before .take .ensures) _ (c .before .before .if1 .taken) _ (c .before .highest-ordinal .ensures) _ (c .compute-flags-wire-bytes .ensures))
+    (λ c. flags-stored _ _ _ _ _ (c .before .take .ensures) _ (c .if1 .left)))
