@@ -90,7 +90,8 @@ enum vexil_finding_column {
  * contents. The caller knows it and chooses the function. The functions whose names end in _two read edition two, all others
  * edition one. In edition two a limit follows the type of each field of a message or variant, and retired ordinals or bits the
  * list of live ones; docs/FORMAT.md describes both. Refusals and tables are the same. Retired ones count for the width of a
- * declared enum or flags type as the live ones do, and so for every size made with it; limits change no answer. */
+ * declared enum or flags type as the live ones do, and so for every size made with it. A limit bears on a field whose own type is an
+ * array, a set or a map: the field then has a largest size wherever its element has one, and may be refused by 11 or 14 for it. */
 
 /* The whole check: sizes and findings. Counts the findings. The rows of the slots stand in `sizes`, those of the findings in
  * `findings`, and zeros after them; on a refusal both tables are all zero. */

@@ -165,6 +165,14 @@ const HELD: [Gap; 4] = [
     around(&[0, 1, 2, 0, 0, 0, 1, 5, 1], &[1, 0]),
 ];
 
+/// What a limit bears on in a field of a declared message: the element of an array,
+/// at most three; how many U8 an array has; the key of a map to U8, at most three.
+const LIMITED: [Gap; 3] = [
+    around(&[1, 0, 1, 1, 0, 0, 0, 1, 0, 0, 5], &[3, 1, 0]),
+    around(&[1, 0, 1, 1, 0, 0, 0, 1, 0, 0, 5, 0, 1], &[1, 0]),
+    around(&[1, 0, 1, 1, 0, 0, 0, 1, 0, 0, 8], &[0, 1, 3, 1, 0]),
+];
+
 /// What bears on the head board, the slot being declared: the size that a
 /// message or a union brings, up to its last number, and the type of a message
 /// field, of edition one and with a limit of 0.
@@ -185,12 +193,12 @@ const fn around(before: &'static [u8], after: &'static [u8]) -> Gap {
 
 /// Compares on all images of up to `bytes` bytes, on all that have as many in a
 /// gap that bears on the head board, and on all that have a byte less where
-/// edition two adds a number or a retired one holds a width; the family does not
-/// count.
+/// edition two adds a number, a retired one holds a width or a limit bears on
+/// elements; the family does not count.
 pub fn exhaustive(bytes: usize, ours: Library) -> Outcome {
     let mut gaps = vec![(ending_at(&[]), bytes)];
     if ours.entry.edition == Edition::Two {
-        let all = ADDED.into_iter().chain(HELD);
+        let all = ADDED.into_iter().chain(HELD).chain(LIMITED);
         gaps.extend(all.map(|gap| (gap, bytes.saturating_sub(1))));
     }
     if ours.entry.layout == Layout::Aligned {

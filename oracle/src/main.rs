@@ -246,20 +246,20 @@ fn run_read(options: &[String]) -> Result<(), Failure> {
 /// Holds or measures, or answers one case as a process of its own.
 fn run_stack(options: &[String]) -> Result<bool, Failure> {
     without_entry(options)?;
-    let ours = ours(Entry::ONE).ok();
+    let ours = |entry| ours(entry).ok();
     if options.iter().any(|option| option == "--measure") {
-        stack::measure(ours)?;
+        stack::measure(&ours)?;
         return Ok(true);
     }
     let Some(name) = option(options, "--subject") else {
-        return Ok(stack::hold(ours)?);
+        return Ok(stack::hold(&ours)?);
     };
     let subject = Subject::ALL.into_iter().find(|one| one.name() == name);
     let subject = subject.ok_or_else(|| format!("no subject {name}"))?;
     let cases = stack::cases();
     let case = cases.get(number(options, "--case")? as usize);
     let case = case.ok_or("no such case")?;
-    stack::run(case, subject, ours, number(options, "--kib")?);
+    stack::run(case, subject, &ours, number(options, "--kib")?);
     Ok(true)
 }
 

@@ -155,7 +155,7 @@ impl Outcome {
 
 /// Images that are recorded as ending the program on its usual stack.
 fn known_to_end() -> Vec<Vec<u8>> {
-    let cases = stack::cases().into_iter();
+    let cases = stack::program_cases().into_iter();
     let known = cases.filter(|case| case.ends_program());
     known.map(|case| case.image).collect()
 }

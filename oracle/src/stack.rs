@@ -6,8 +6,8 @@ use std::process::{Command, Stdio};
 use std::thread;
 
 use crate::answer::PROGRAM_PLACES;
-use crate::format::Edition;
-use crate::generate::deep::{in_no_order, through_again, Chain, Link, Wrapper};
+use crate::format::{Edition, Entry};
+use crate::generate::deep::{in_no_order, through_again, through_entries, Chain, Link, Wrapper};
 use crate::import::import;
 use crate::library::Library;
 use crate::model::Schema;
@@ -30,29 +30,36 @@ const KEPT: u64 = 320;
 const SLACK: u64 = 20;
 
 /// Least KiB of each case by subject, as `stack --measure` prints them. The
-/// figures of the Rust are those of rustc 1.95 and are not held.
+/// figures of the Rust are those of rustc 1.95 and are not held. In edition two only
+/// the library's check follows elements; 0 stands for what is not measured.
 #[rustfmt::skip]
-const RECORDED: [[u64; 4]; 13] = [
-    [6952, 6952, 1620, 1624], // 512 declared messages, the outermost first
-    [6952, 6952, 1620, 1624], // 512 messages, one declared
-    [6968, 6968, 1636, 1640], // 512 unions
-    [6800, 6800, 1540, 1544], // 512 newtypes below a message
-    [6880, 6880, 1580, 1584], // 512 messages and newtypes in turns
-    [6952, 6952, 1620, 1624], // 512 messages, Fixed
-    [6952, 6952, 1620, 1624], // 512 messages, Result
-    [6952, 6952, 3108, 3112], // 512 messages, Deltas
-    [1012, 1012, 136, 136], // 512 messages, no wrappers
-    [1012, 2752, 136, 136], // 512 messages, no wrappers, no order
-    [13568, 13568, 3068, 3068], // 2 messages, newtypes gone through again
-    [20320, 20320, 4592, 4592], // 3 messages, newtypes gone through again
-    [27040, 27040, 6112, 6112], // 4 messages, newtypes gone through again
+const RECORDED: [[u64; 4]; 15] = [
+    [7392, 7392, 1620, 1624], // 512 declared messages, the outermost first
+    [7392, 7392, 1620, 1624], // 512 messages, one declared
+    [7416, 7416, 1636, 1640], // 512 unions
+    [7048, 7048, 1540, 1544], // 512 newtypes below a message
+    [7224, 7224, 1580, 1584], // 512 messages and newtypes in turns
+    [7392, 7392, 1620, 1624], // 512 messages, Fixed
+    [7392, 7392, 1620, 1624], // 512 messages, Result
+    [7392, 7392, 3108, 3112], // 512 messages, Deltas
+    [1152, 1152, 136, 136], // 512 messages, no wrappers
+    [1156, 2752, 136, 136], // 512 messages, no wrappers, no order
+    [14064, 14064, 3068, 3068], // 2 messages, newtypes gone through again
+    [21056, 21056, 4592, 4592], // 3 messages, newtypes gone through again
+    [28000, 28000, 6112, 6112], // 4 messages, newtypes gone through again
+    [0, 7192, 0, 0], // 512 limited maps, edition two
+    [0, 1204, 0, 0], // 512 limited maps, edition two, no wrappers
 ];
 
 pub struct Case {
     pub name: String,
     pub image: Vec<u8>,
+    pub entry: Entry,
     recorded: [u64; 4],
 }
+
+/// The library for an entry, if there is one.
+pub type Ours<'a> = &'a dyn Fn(Entry) -> Option<Library>;
 
 impl Case {
     /// The least KiB on which a subject answered when it was measured.
@@ -76,7 +83,28 @@ impl Case {
     }
 }
 
+/// All cases, those of edition one first.
 pub fn cases() -> Vec<Case> {
+    let one = deep_schemas().into_iter();
+    let one = one.map(|(name, schema)| (name, schema, Entry::ONE));
+    let two = [("", 30), (", no wrappers", 0)].map(|(more, levels)| {
+        let name = format!("512 limited maps, edition two{more}");
+        (name, through_entries(512, levels), Entry::TWO)
+    });
+    let cases: Vec<(String, Schema, Entry)> = one.chain(two).collect();
+    assert_eq!(cases.len(), RECORDED.len());
+    let cases = cases.into_iter().zip(RECORDED);
+    cases
+        .map(|((name, schema, entry), recorded)| Case {
+            name,
+            image: schema.bytes(entry.edition),
+            entry,
+            recorded,
+        })
+        .collect()
+}
+
+fn deep_schemas() -> Vec<(String, Schema)> {
     let chain = |link, wrapper| Chain {
         slots: 512,
         link,
@@ -114,19 +142,13 @@ pub fn cases() -> Vec<Case> {
         let name = format!("{messages} messages, newtypes gone through again");
         cases.push((name, through_again(messages)));
     }
-    assert_eq!(cases.len(), RECORDED.len());
-    let cases = cases.into_iter().zip(RECORDED);
     cases
-        .map(|((name, schema), figures)| case(name, &schema, figures))
-        .collect()
 }
 
-fn case(name: String, schema: &Schema, recorded: [u64; 4]) -> Case {
-    Case {
-        name,
-        image: schema.bytes(Edition::One),
-        recorded,
-    }
+/// Those that `vexcheck` reads.
+pub fn program_cases() -> Vec<Case> {
+    let cases = cases().into_iter();
+    cases.filter(|case| case.entry == Entry::ONE).collect()
 }
 
 /// What is run on the small stack.
@@ -162,7 +184,7 @@ impl Subject {
 
 /// Holds our check and sizes to the figures of each case, and prints them;
 /// false if one is exceeded. Without a library there is nothing to hold.
-pub fn hold(ours: Option<Library>) -> io::Result<bool> {
+pub fn hold(ours: Ours<'_>) -> io::Result<bool> {
     heading("recorded KiB (held to)", &Subject::ALL);
     let (mut exceeded, mut stale) = (0, 0);
     let mut notes = Vec::new();
@@ -170,7 +192,11 @@ pub fn hold(ours: Option<Library>) -> io::Result<bool> {
         print!("{:46}{:>7}", case.name, case.image.len());
         for subject in Subject::ALL {
             let (figure, held) = (case.recorded(subject), case.held(subject));
-            if !subject.is_ours() || !measurable(subject, ours) {
+            if figure == 0 {
+                print!("{:>16}", "-");
+                continue;
+            }
+            if !subject.is_ours() || !measurable(subject, case.entry, ours) {
                 print!("{figure:>16}");
                 continue;
             }
@@ -203,11 +229,11 @@ pub fn hold(ours: Option<Library>) -> io::Result<bool> {
 
 /// Prints the least stack of each case in KiB, in the form of `RECORDED`.
 /// Without a library only the Rust is measured.
-pub fn measure(ours: Option<Library>) -> io::Result<()> {
+pub fn measure(ours: Ours<'_>) -> io::Result<()> {
     for (index, case) in cases().iter().enumerate() {
         let mut figures = Vec::new();
         for subject in Subject::ALL {
-            let least = match measurable(subject, ours) {
+            let least = match measurable(subject, case.entry, ours) {
                 true => least(index, subject)?,
                 false => Some(0),
             };
@@ -224,8 +250,11 @@ fn heading(what: &str, subjects: &[Subject]) {
     println!();
 }
 
-fn measurable(subject: Subject, ours: Option<Library>) -> bool {
-    match ours {
+fn measurable(subject: Subject, entry: Entry, ours: Ours<'_>) -> bool {
+    if entry.edition == Edition::Two && subject != Subject::Check {
+        return false;
+    }
+    match ours(entry) {
         None => !subject.is_ours(),
         Some(ours) => match subject {
             Subject::Sizes => ours.sizes.is_some(),
@@ -270,8 +299,9 @@ fn runs(case: usize, subject: Subject, stack: u64) -> io::Result<bool> {
 
 /// Answers one case on a stack of so many KiB; does not return if it is too
 /// small.
-pub fn run(case: &Case, subject: Subject, ours: Option<Library>, stack: u64) {
+pub fn run(case: &Case, subject: Subject, ours: Ours<'_>, stack: u64) {
     let image = case.image.clone();
+    let ours = ours(case.entry);
     let builder = thread::Builder::new().stack_size(stack as usize * 1024);
     let worker = builder.spawn(move || answer(&image, subject, ours));
     let worker = worker.expect("the system starts a thread");

@@ -51,7 +51,7 @@ pub struct Outcome {
 /// Runs a program on all cases of `stack`, then on images of a selection, each
 /// once, up to the first failure.
 pub fn run(binary: &str, selection: Selection) -> io::Result<Outcome> {
-    let cases = stack::cases();
+    let cases = stack::program_cases();
     let raises = on_stack(LONG, "true").status()?.success();
     let mut stress = Stress {
         binary,

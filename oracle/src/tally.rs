@@ -3,8 +3,8 @@
 use std::fmt;
 
 use crate::answer::{
-    AddedCounts, AlignedCounts, Classes, FieldCounts, Operation, Part, PassedLimit, RetiredCounts,
-    Unions, Whole,
+    AddedCounts, AlignedCounts, Classes, FieldCounts, LimitedCounts, Operation, Part, PassedLimit,
+    RetiredCounts, Unions, Whole,
 };
 use crate::format::{Edition, Entry, Layout};
 use crate::generate::{FAMILIES, FIRST_EDITION};
@@ -41,7 +41,7 @@ fn images_each(number: usize, edition: Edition) -> u64 {
         (1, Edition::One) => 200_000,
         (1, Edition::Two) => 4_000,
         (15, Edition::One) => 20,
-        (15, Edition::Two) => 25,
+        (15, Edition::Two) => 30,
         _ => 20_000,
     }
 }
@@ -50,8 +50,9 @@ fn images_each(number: usize, edition: Edition) -> u64 {
 fn with_trait_fields(images: u64, entry: Entry) -> u64 {
     match entry {
         Entry::ONE => images,
-        Entry::TWO => images * 2 / 3,
-        _ => images / 2,
+        Entry::TWO => images * 3 / 5,
+        Entry::ALIGNED => images / 2,
+        Entry::ALIGNED_TWO => images * 2 / 5,
     }
 }
 
@@ -60,6 +61,14 @@ fn with_additions(images: u64, layout: Layout) -> u64 {
     match layout {
         Layout::Packed => images,
         Layout::Aligned => images * 2 / 3,
+    }
+}
+
+/// So many as the head board's own families are among; edition two has others besides.
+fn with_head_board(images: u64, edition: Edition) -> u64 {
+    match edition {
+        Edition::One => images,
+        Edition::Two => images * 3 / 4,
     }
 }
 
@@ -79,6 +88,8 @@ pub struct Tally {
     added: AddedCounts,
     /// What retired ones change; nothing in a run of edition one.
     retired: RetiredCounts,
+    /// What limits change; nothing in a run of edition one.
+    limited: LimitedCounts,
     /// What the head board changes; nothing in a run of the packed layout.
     aligned: AlignedCounts,
 }
@@ -96,6 +107,7 @@ impl Default for Tally {
             first_steps: FirstSteps::default(),
             added: AddedCounts::default(),
             retired: RetiredCounts::default(),
+            limited: LimitedCounts::default(),
             aligned: AlignedCounts::default(),
         }
     }
@@ -124,7 +136,8 @@ impl Tally {
     }
 
     /// Counts what edition one makes of an image of edition two, what its live ones
-    /// alone come to, and what the packed layout makes of one for the head board.
+    /// alone and its fields without limits come to, and what the packed layout makes
+    /// of one for the head board.
     pub fn look_across(&mut self, image: &[u8], entry: Entry, whole: &Whole) {
         if entry.edition == Edition::Two && whole.refusal().is_none() {
             let first = Entry {
@@ -133,6 +146,7 @@ impl Tally {
             };
             self.added.count_both(&Whole::of(image, first), whole);
             self.retired.count(image, entry, whole);
+            self.limited.count(image, entry, whole);
         }
         if entry.layout == Layout::Aligned {
             self.aligned.count(image, entry.edition, whole);
@@ -166,6 +180,7 @@ impl Tally {
         }
         self.added.add(&other.added);
         self.retired.add(&other.retired);
+        self.limited.add(&other.limited);
         self.aligned.add(&other.aligned);
     }
 
@@ -176,7 +191,8 @@ impl Tally {
 
     /// What a run over all families has too few of, lest it show nothing:
     /// trait fields, images by class of finding, images by refusal, what
-    /// edition two adds, what its retired ones change and what the head board does.
+    /// edition two adds, what its retired ones and limits change and what the head
+    /// board does.
     pub fn below_floor(&self, entry: Entry) -> Vec<String> {
         let Entry { edition, layout } = entry;
         let images = self.images();
@@ -198,11 +214,12 @@ impl Tally {
             let adding = with_additions(images, layout);
             held.extend(self.added.held(adding));
             held.extend(self.retired.held(adding));
+            held.extend(self.limited.held(adding));
             let what = "images of edition one".into();
             held.push((what, self.first_edition(), images / FIRST_EDITION_EACH));
         }
         if layout == Layout::Aligned {
-            held.extend(self.aligned.held(images));
+            held.extend(self.aligned.held(with_head_board(images, edition)));
         }
         let few = held.into_iter().filter(|(_, count, floor)| count < floor);
         few.map(|(what, count, floor)| format!("{what}: {count}, not {floor}"))
@@ -259,6 +276,9 @@ impl fmt::Display for Tally {
         }
         if self.retired != RetiredCounts::default() {
             self.retired.fmt(out)?;
+        }
+        if self.limited != LimitedCounts::default() {
+            self.limited.fmt(out)?;
         }
         if self.aligned != AlignedCounts::default() {
             self.aligned.fmt(out)?;

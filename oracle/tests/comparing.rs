@@ -59,7 +59,9 @@ fn reference_equals_itself() {
     assert!(unions.iter().all(|&turns| turns > 50), "{unions:?}");
     let first_steps = outcome.tally.first_steps();
     for (part, counts) in Part::ALL.iter().zip(first_steps) {
-        assert!(counts.iter().all(|&count| count > 5), "{part:?} {counts:?}");
+        // Edition one has no limits.
+        let met = |&count: &u64| (count > 5) == (*part != Part::Limited);
+        assert!(counts.iter().all(met), "{part:?} {counts:?}");
     }
     // Refusal 1 takes long images, which are rare.
     for &number in numbers(Layout::Packed)

@@ -3,7 +3,7 @@
 use oracle::answer::{Answer, Whole, PATIENT_STEP_LIMIT, PROGRAM_PLACES};
 use oracle::bench::cases::{cases, pairs, Case, Pair};
 use oracle::format::{Edition, Entry, IMAGE_LIMIT};
-use oracle::generate::deep::{in_no_order, through_again, Chain, Link, Wrapper};
+use oracle::generate::deep::{in_no_order, through_again, through_entries, Chain, Link, Wrapper};
 use oracle::workers::on_long_stack;
 
 fn deepest(link: Link, wrapper: Wrapper) -> u64 {
@@ -44,6 +44,22 @@ fn newtypes_are_gone_through_again() {
         assert_eq!(whole.finding_places(), Some(0));
         assert!(whole.deepest > messages * (512 - messages) * 32 - 32);
     }
+}
+
+/// In edition two the entries of a map are worked out if they have a limit.
+#[test]
+fn entries_are_gone_through() {
+    let schema = through_entries(512, 30);
+    let deepest = |entry: Entry| {
+        let image = schema.bytes(entry.edition);
+        let whole = on_long_stack(|| Whole::of(&image, entry));
+        assert_eq!(whole.finding_places(), Some(0));
+        whole.deepest
+    };
+    for entry in [Entry::TWO, Entry::ALIGNED_TWO] {
+        assert_eq!(deepest(entry), 511 * 33 + 2);
+    }
+    assert_eq!(deepest(Entry::ONE), 2);
 }
 
 #[test]

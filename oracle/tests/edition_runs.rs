@@ -1,6 +1,6 @@
 //! Runs over images of edition two: the floors that they are held to, wrong
 //! readings that they have to tell, and the option for it. `held_runs.rs` has wrong
-//! widths.
+//! widths, `limited_runs.rs` wrong limits.
 
 mod command;
 
@@ -35,8 +35,8 @@ fn reference_equals_itself() {
 fn all_short_images() {
     let outcome = exhaustive(2, REFERENCE_TWO);
     assert_eq!(outcome.difference, None);
-    // All of two bytes, and of one byte in each of nine gaps.
-    let images = 1 + 256 + 65_536 + 9 * (1 + 256);
+    // All of two bytes, and of one byte in each of twelve gaps.
+    let images = 1 + 256 + 65_536 + 12 * (1 + 256);
     assert_eq!(outcome.tally.images(), images);
     assert!(outcome.passed());
 }
@@ -63,6 +63,10 @@ fn floors_need_their_families() {
             "images answered otherwise by both editions",
         ),
         ("held-widths", "accepted by live ones alone, but refused 14"),
+        (
+            "limited-arrays",
+            "accepted without limits, but refused 14, the",
+        ),
     ] {
         let few = below_floor_without(name);
         let is_told = few.iter().any(|few| few.starts_with(told));
@@ -87,8 +91,9 @@ fn floors_are_told() {
     for told in [
         "limits, Mat4, variant: 0, not 1",
         "retired lists, flags, live too: 0, not 1",
-        "images answered otherwise by both editions: 0, not 2",
+        "images answered otherwise by both editions: 0, not 6",
         "retired ones, flags, 8 bytes, not 4: 0, not 1",
+        "accepted without limits, but refused 11, key and value: 0, not 1",
     ] {
         assert!(few.iter().any(|few| few == told), "{told}: {few:?}");
     }
@@ -100,7 +105,7 @@ fn editions_are_1_and_2() {
     let families = |edition| oracle(&["families", "--edition", edition]);
     assert_eq!(oracle(&["families"]), families("1"));
     let two = families("2").expect("families");
-    assert!(two.ends_with("first-edition\nheld-widths\n"));
+    assert!(two.ends_with("first-edition\nheld-widths\nlimited-arrays\n"));
     let told = |edition| format!("oracle: --edition is 1 or 2, not {edition}\n");
     for edition in ["0", "3", "two", "--count"] {
         assert_eq!(families(edition), Err(told(edition)));

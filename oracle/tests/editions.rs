@@ -1,19 +1,20 @@
 //! Edition two: limits after the types of message and variant fields, retired
 //! ones after the live ones of enums and flags, and nothing else; and what becomes
-//! of them in edition one. `held_widths.rs` has the widths that retired ones hold.
+//! of them in edition one. `held_widths.rs` has the widths that retired ones hold,
+//! `limited_arrays.rs` the sizes that limits bound.
 
 mod taken_out;
 
 use oracle::answer::{answer, Answer, PROGRAM_PLACES};
 use oracle::example::bond_report;
-use oracle::export::{export, Unfit};
+use oracle::export::{export, tree_of, Unfit};
 use oracle::format::{Edition, Entry, IMAGE_LIMIT};
 use oracle::generate::{batch, Families};
 use oracle::import::{import, Added};
 use oracle::ir::{CompiledSchema, FieldDef, TombstoneDef, TypeDef};
 use oracle::model::{
-    declared, field, live, message, union, wrap, Encoding, Field, Ordinals, Schema, Slot, ARRAY,
-    U32, U8,
+    declared, field, live, message, union, wrap, Encoding, Field, Ordinals, Schema, Slot, Tree,
+    ARRAY, MAP, SET, U32, U8,
 };
 use oracle::span::Span;
 use oracle::typeck::check;
@@ -426,27 +427,92 @@ fn each_accepted(
     });
 }
 
+/// Whether a limit bears on elements.
+fn bears(schema: &CompiledSchema) -> bool {
+    let tree = tree_of(schema, Edition::Two).expect("what was read fits");
+    let is_limited = |field: &Field| {
+        let own = matches!(
+            field.tree,
+            Tree::Wrap(ARRAY | SET, _) | Tree::Pair(MAP, _, _)
+        );
+        own && field.limit > 0 && field.encoding.last == 0
+    };
+    tree.slots.iter().any(|slot| match slot {
+        Slot::Message { fields, .. } => fields.iter().any(is_limited),
+        Slot::Union { variants, .. } => variants.iter().flatten().any(is_limited),
+        _ => false,
+    })
+}
+
+/// What limits may make of an answer: rows gain a largest and change in nothing else,
+/// or a size is refused. Answers whether a row has one more.
+fn assert_limited(limited: &Answer, plain: &Answer) -> bool {
+    let (
+        Answer::Accepted {
+            sizes, findings, ..
+        },
+        Answer::Accepted {
+            sizes: plain_sizes,
+            findings: plain_findings,
+            ..
+        },
+    ) = (limited, plain)
+    else {
+        let by_size = matches!(
+            limited,
+            Answer::Refused {
+                number: 11 | 14,
+                ..
+            }
+        );
+        assert!(by_size || limited == plain, "{limited:?}, not {plain:?}");
+        return false;
+    };
+    assert_eq!(findings, plain_findings);
+    for (row, plain) in sizes.chunks(3).zip(plain_sizes.chunks(3)) {
+        let bounded = plain[0] == 3 && row[0] == 2 && row[1] == plain[1] && row[2] >= row[1];
+        assert!(row == plain || bounded, "{row:?}, not {plain:?}");
+    }
+    sizes != plain_sizes
+}
+
+/// Where no limit bears on elements, that of the image with retired ones live; where
+/// one does, as that one but for sizes that it bounds.
 #[test]
 fn answered_as_with_retired_ones_live() {
-    let (mut accepted, mut wider) = (0, 0);
+    let (mut accepted, mut wider, mut bounded, mut refused) = (0, 0, 0, 0);
     for two in [Entry::TWO, Entry::ALIGNED_TWO] {
         let one = Entry {
             edition: Edition::One,
             ..two
         };
-        each_accepted(two, 6_000, &mut |image, _| {
+        each_accepted(two, 6_000, &mut |image, schema| {
             let (live, left) = (moved(image), taken_out(image));
             assert!(live.len() <= image.len());
             let images = [(image, two), (&live, one), (&left, one)];
             let [two, live, left] =
                 images.map(|(image, entry)| answer(image, entry, PROGRAM_PLACES));
-            assert_eq!(two, live, "{image:02x?}");
-            accepted += u64::from(matches!(two, Ok(Answer::Accepted { .. })));
-            wider += u64::from(two != left);
+            match (&two, &live) {
+                (Ok(two), Ok(live)) if bears(&schema) => {
+                    bounded += u64::from(assert_limited(two, live));
+                    refused += u64::from(two != live && !is_accepted(two));
+                }
+                // What limits bear on may take too long.
+                (Err(_), _) if bears(&schema) => {}
+                _ => assert_eq!(two, live, "{image:02x?}"),
+            }
+            accepted += u64::from(two.as_ref().is_ok_and(is_accepted));
+            wider += u64::from(live != left);
         });
     }
     assert!(accepted > 6_000, "{accepted}");
     assert!(wider > 600, "{wider}");
+    assert!(bounded > 250, "{bounded}");
+    assert!(refused > 250, "{refused}");
+}
+
+fn is_accepted(answer: &Answer) -> bool {
+    matches!(answer, Answer::Accepted { .. })
 }
 
 /// Limits and retired ones leave nothing else behind: what is left holds what the
@@ -465,7 +531,7 @@ fn taken_out_as_the_exporter_leaves_out() {
     assert!(changed > 1_000, "{changed}");
 }
 
-/// Findings do not hang on widths: whatever is taken out, they stay.
+/// Findings hang on no widths and no limits: whatever is taken out, they stay.
 #[test]
 fn findings_are_those_of_the_image_left() {
     let (mut found, mut wider) = (0, 0);

@@ -11,7 +11,7 @@ use oracle::model::{Ordinals, Slot};
 
 const SELECTION: Selection = Selection {
     count: 8_000,
-    seed: 8,
+    seed: 10,
     families: Families::All,
     entry: Entry::TWO,
 };

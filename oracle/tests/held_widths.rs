@@ -321,7 +321,7 @@ fn sizes_are_worked_out_with_it() {
     }
 }
 
-/// Elements and encoded values do not have its width, with a limit or without.
+/// Elements and encoded values do not have its width; with a limit elements do.
 #[test]
 fn sizes_are_worked_out_without_it() {
     let varint = Field {
@@ -332,11 +332,13 @@ fn sizes_are_worked_out_without_it() {
         limit: 3,
         ..field(0, wrap(ARRAY, HELD))
     };
+    let schema = used(message(0, vec![limited]), nine_bits());
+    assert_eq!(rows(&schema, Edition::Two), [[2, 8, 35], [2, 8, 40]]);
+    assert_eq!(rows(&schema, Edition::One), [[3, 8, 0]; 2]);
     let users = [
         (field(0, wrap(ARRAY, HELD)), [3, 8, 0]),
         (field(0, wrap(SET, HELD)), [3, 8, 0]),
         (field(0, pair(MAP, HELD, U8)), [3, 8, 0]),
-        (limited, [3, 8, 0]),
         (varint, [2, 8, 80]),
     ];
     for (user, due) in users {

@@ -1,5 +1,6 @@
-//! The enumerator of lengths: each length rule of document 01 by hand, what the
-//! head board and retired ones change, and wrong sizes that it has to tell.
+//! The enumerator of lengths: each length rule of documents 01 and 02 by hand, what
+//! the head board, retired ones and limits change, and wrong sizes that it has to
+//! tell.
 
 mod wrong_sizes;
 
@@ -21,7 +22,8 @@ use oracle::model::{
     declared, field, fixed, live, message, pair, union, wrap, Encoding, Field, Ordinals, Schema,
     Slot, Stored, Tree, ARRAY, BOOL, MAP, MAT4, OPTIONAL, RESULT, SET, U32, U8, VEC2, VEC3, VOID,
 };
-use wrong_sizes::{table, Wrong, NOT_ASKED};
+use oracle::workers::on_long_stack;
+use wrong_sizes::{table, worked, Wrong, LIMITS_NOT_ASKED, NOT_ASKED};
 
 const SEED: u64 = 1;
 
@@ -124,11 +126,111 @@ fn wrappers() {
         of(pair(RESULT, VOID, Tree::Semantic(0))),
         Lengths::any_from(1)
     );
-    for tree in [wrap(ARRAY, U8), wrap(SET, VOID), pair(MAP, U8, U8)] {
-        assert_eq!(of(tree), Lengths::any_from(8));
+}
+
+/// Sums of `step` from `first` on up to the horizon, and past it.
+fn steps(first: u64, step: u64) -> Lengths {
+    let mut lengths: Lengths = (first..HORIZON).step_by(step as usize).collect();
+    lengths.put(HORIZON);
+    lengths
+}
+
+/// A count in groups of seven bits, 8 bits each, and then so many elements.
+#[test]
+fn elements_behind_their_count() {
+    // 127 U8 after one group would be 1,024 bits.
+    assert_eq!(of(wrap(ARRAY, U8)), steps(8, 8));
+    assert_eq!(of(wrap(SET, U8)), steps(8, 8));
+    assert_eq!(of(pair(MAP, U8, U8)), steps(8, 16));
+    assert_eq!(of(pair(MAP, U8, U32)), steps(8, 40));
+    // 128 Bool take two groups: no 8 + 128 to 16 + 127 bits.
+    let mut bools: Lengths = (8..=8 + 127).collect();
+    bools = bools.or(&Lengths::any_from(16 + 128));
+    assert_eq!(of(wrap(ARRAY, BOOL)), bools);
+    // Of no bits, ten groups at most.
+    let counts: Lengths = (1..=10).map(|groups| 8 * groups).collect();
+    assert_eq!(of(wrap(SET, VOID)), counts);
+    assert_eq!(of(pair(MAP, VOID, fixed(BOOL, 0))), counts);
+    assert_eq!(of(wrap(ARRAY, Tree::Semantic(0))), Lengths::any_from(8));
+    assert_eq!(of(wrap(ARRAY, wrap(ARRAY, VOID))), steps(8, 8));
+    let union = union(vec![vec![], vec![field(0, U8)]]);
+    assert_eq!(beside(wrap(ARRAY, Tree::Named(1)), &[union]), steps(8, 8));
+}
+
+/// Arrays may be empty, so a type that has no length otherwise has one by them.
+#[test]
+fn elements_of_the_own_type() {
+    assert_eq!(of(wrap(ARRAY, ITSELF)), steps(8, 8));
+    assert_eq!(of(pair(MAP, ITSELF, U8)), steps(8, 16));
+    let newtype = Slot::Newtype {
+        inner: BOOL,
+        terminal: wrap(ARRAY, Tree::Named(1)),
+    };
+    assert_eq!(beside(Tree::Named(1), &[newtype]), steps(8, 8));
+    // Elements without lengths: no more than none of them.
+    let endless = message(1, vec![field(0, Tree::Named(1))]);
+    let one = || std::slice::from_ref(&endless);
+    assert_eq!(beside(wrap(SET, Tree::Named(1)), one()), these([8]));
+    assert_eq!(beside(pair(MAP, U8, Tree::Named(1)), one()), these([8]));
+    let maybe = wrap(OPTIONAL, wrap(ARRAY, Tree::Named(1)));
+    assert_eq!(beside(maybe, one()), these([1, 9]));
+}
+
+/// Sums of so many against a count of each number of them.
+#[test]
+fn counts_are_all_numbers() {
+    let mut random = oracle::random::Random::new(SEED, 1);
+    for _ in 0..200 {
+        let count = random.below(4);
+        let bound = random.pick(&[3, 20, 200]);
+        let element: Lengths = (0..count).map(|_| random.below(bound)).collect();
+        let most = random.pick(&[1, 2, 3, 100, 127, 128, 129, 300, 1_500]);
+        let mut all = Lengths::NONE;
+        let mut sum = Lengths::one(0);
+        for elements in 0..=most {
+            let groups = if elements < 128 { 1 } else { 2 };
+            all = all.or(&sum.longer(8 * groups));
+            sum = sum.plus(&element);
+        }
+        assert_eq!(element.counted(most), all, "{most} of {element:?}");
     }
-    // Elements do not count, not even those without lengths.
-    assert_eq!(of(wrap(ARRAY, ITSELF)), Lengths::any_from(8));
+}
+
+/// In edition two a limit bounds the count, of the field's own type alone.
+#[test]
+fn limits_bound_the_count() {
+    let limited = |tree: Tree, limit: u64, deltas: u32, last: u64| Field {
+        encoding: Encoding { deltas, last },
+        limit,
+        ..field(0, tree)
+    };
+    let lengths = |field: Field, entry: Entry| {
+        let slots = vec![message(0, vec![field]), Slot::Config];
+        let schema = compiled(&declared(vec![0], slots), entry.edition);
+        lengths_of_slots(&schema, entry.layout)[0]
+    };
+    let two = |tree: Tree, limit| lengths(limited(tree, limit, 0, 0), Entry::TWO);
+    assert_eq!(two(wrap(ARRAY, U8), 3), these([8, 16, 24, 32]));
+    assert_eq!(two(pair(MAP, BOOL, U8), 2), these([8, 17, 26]));
+    assert_eq!(two(wrap(SET, VOID), 127), these([8]));
+    assert_eq!(two(wrap(SET, VOID), 128), these([8, 16]));
+    assert_eq!(
+        two(wrap(SET, VOID), u32::MAX.into()),
+        these([8, 16, 24, 32, 40])
+    );
+    assert_eq!(two(wrap(ARRAY, wrap(ARRAY, U8)), 1), steps(8, 8));
+    assert_eq!(two(wrap(ARRAY, U8), 0), steps(8, 8));
+    assert_eq!(two(wrap(ARRAY, ITSELF), 1), steps(8, 8));
+    let optional = wrap(OPTIONAL, wrap(ARRAY, U8));
+    assert_eq!(two(optional, 1), these([1]).or(&steps(9, 8)));
+    let delta = |last| lengths(limited(wrap(ARRAY, U8), 1, 2, last), Entry::TWO);
+    assert_eq!(delta(0), these([8, 16]));
+    assert_eq!(delta(1), (1..=10).map(|bytes| 8 * bytes).collect());
+    // The field is rounded on the head board, and not its elements.
+    let three = || limited(wrap(ARRAY, BOOL), 3, 0, 0);
+    assert_eq!(lengths(three(), Entry::TWO), these([8, 9, 10, 11]));
+    assert_eq!(lengths(three(), Entry::ALIGNED_TWO), these([8, 16]));
+    assert!(lengths(three(), Entry::ONE).reaches_beyond());
 }
 
 #[test]
@@ -426,6 +528,37 @@ fn wrong_widths_are_told() {
     }
 }
 
+#[test]
+fn wrong_limits_are_told() {
+    for entry in [Entry::TWO, Entry::ALIGNED_TWO] {
+        for &wrong in Wrong::OF_LIMITS {
+            let told = found(entry, wrong).len();
+            println!("{wrong:?}: {told}");
+            let rounds = wrong != Wrong::ElementsRounded || entry == Entry::ALIGNED_TWO;
+            let asked = rounds && !LIMITS_NOT_ASKED.contains(&wrong);
+            assert_eq!(told > 0, asked, "{wrong:?}, {entry:?}");
+            let differs = |one: &Prepared| table(&one.schema, entry.layout, wrong) != one.sizes;
+            let differs = prepared(entry).iter().any(differs);
+            assert_eq!(differs, rounds, "{wrong:?}, {entry:?}");
+        }
+    }
+}
+
+/// Wrong refusals are seen where sizes are large; small schemas have none.
+#[test]
+fn wrong_refusals_are_told_elsewhere() {
+    let entry = Entry::TWO;
+    on_long_stack(|| {
+        for &wrong in Wrong::OF_REFUSALS {
+            for Prepared { schema, sizes, .. } in prepared(entry) {
+                let worked = worked(schema, entry.layout, wrong);
+                assert!(worked.refused.is_none(), "{wrong:?}");
+                assert!(worked.too_long || &worked.table == sizes, "{wrong:?}");
+            }
+        }
+    });
+}
+
 /// Lengths that are not rounded do not go with sizes that are, nor the other
 /// way round; nor do those of edition one with sizes of edition two.
 #[test]
@@ -543,6 +676,32 @@ fn leading_back_follows_parts() {
     assert_eq!(facts(&schema).back, [true, true]);
 }
 
+/// In edition two the elements of a field that has a limit of them are parts.
+#[test]
+fn leading_back_follows_limited_elements() {
+    let back = |tree: Tree, limit: u64, last: u64| {
+        let field = Field {
+            encoding: Encoding { deltas: 1, last },
+            limit,
+            ..field(0, tree)
+        };
+        let schema = declared(vec![0], vec![message(0, vec![field])]);
+        Facts::of(&compiled(&schema, Edition::Two), Layout::Packed).back[0]
+    };
+    for tree in [
+        wrap(ARRAY, ITSELF),
+        wrap(SET, wrap(OPTIONAL, ITSELF)),
+        pair(MAP, ITSELF, U8),
+        pair(MAP, U8, ITSELF),
+    ] {
+        assert!(back(tree.clone(), 1, 0), "{tree:?}");
+        assert!(!back(tree.clone(), 0, 0), "{tree:?}");
+        assert!(!back(tree.clone(), 1, 1), "{tree:?}");
+        assert!(!back(wrap(ARRAY, tree), 1, 0));
+    }
+    assert!(!back(wrap(OPTIONAL, wrap(ARRAY, ITSELF)), 1, 0));
+}
+
 fn reference(image: &[u8], sizes: &mut [u64]) -> Verdict {
     let size = REFERENCE.sizes.expect("the reference has all");
     size(image, sizes)
@@ -586,7 +745,7 @@ fn a_wrong_library_is_told_by_a_small_image() {
 fn the_rust_meets_demand_three() {
     let count = 3_000;
     for entry in Entry::ALL {
-        let summary = run(count, 9, entry, &subjects(entry, None));
+        let summary = run(count, 10, entry, &subjects(entry, None));
         assert!(summary.broken.is_none(), "{:?}", summary.broken);
         assert_eq!(summary.too_low(count, entry), Vec::<String>::new());
         let (_, tally) = &summary.small.tallies[0];

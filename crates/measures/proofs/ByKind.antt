@@ -11,7 +11,8 @@ use Rattle.tree.specs.Tree.{Tree, Leaf, Wrap, leaf, wrap, fixedArray, pair, gen
 use Rattle.sizes.specs.declared.Size.the-variants.{Fixed, Open}
 use Rattle.sizes.specs.declared.Worked.{Worked}
 use Rattle.sizes.specs.declared.Worked.the-variants.{Sized}
-use Rattle.sizes.specs.Sizes.{Resolver, leafSize, anyNumber, countOf, wrapSize, leafSpan, spanEnd, varintEnd, zigZagEnd}
+use Rattle.sizes.specs.Elements.{anyNumber, countOf}
+use Rattle.sizes.specs.Sizes.{Resolver, leafSize, wrapSize, leafSpan, spanEnd, varintEnd, zigZagEnd}
 use Rattle.measures.specs.Heads.{leafOf, wrapOf}
 
 -- the kind of a type's head, and its number, 0 where there is none

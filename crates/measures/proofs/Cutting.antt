@@ -13,7 +13,8 @@ use Rattle.sizes.specs.declared.Size.the-variants.{Fixed, Bounded, Open}
 use Rattle.sizes.specs.declared.Operation.{Operation}
 use Rattle.sizes.specs.declared.Worked.{Worked}
 use Rattle.sizes.specs.declared.Worked.the-variants.{Sized, Over}
-use Rattle.sizes.specs.Sizes.{limit, limited, variable, both}
+use Rattle.number.specs.Shortest.{groupsOf}
+use Rattle.sizes.specs.Sizes.{limit, limited, limitedSum, limitedProduct, then, smallest, variable, both, multiplied, upTo}
 use Rattle.measures.specs.Cut.{cutSum}
 
 -- whatever made the size
@@ -114,3 +115,17 @@ module _ (o : Operation) {s : Size} where
   pub open-sized : {l : ℕ} → s ≡ Open l → l ≤ limit → Sized (Open l) ≡ limited o s
   unfolding limited
   open-sized e h = let t = le-ltb _ _ h in rw (e, t)
+
+-- at most so many elements, by the code's steps
+module _ (most : ℕ) {o : Option ℕ} where
+  pub up-to-open : o ≡ none → Sized (Open 8) ≡ upTo most o
+  up-to-open e = rw e
+
+  module _ {h : ℕ} (e : o ≡ some h) {p : Worked} (times : p ≡ limitedProduct (multiplied most (Fixed h))) where
+    pub up-to-sized : {all : Size} {w : Worked} → p ≡ Sized all → w ≡ limitedSum (Bounded 8 (8 * groupsOf most + smallest all)) → w ≡ upTo most o
+    unfolding then
+    up-to-sized f q = let z = sym times ∙ f in q ∙ rw (e, z)
+
+    pub up-to-over : {by : Operation} → p ≡ Over by → Over by ≡ upTo most o
+    unfolding then
+    up-to-over f = let z = sym times ∙ f in rw (e, z)

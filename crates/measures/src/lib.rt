@@ -6,7 +6,9 @@ use sizes::Worked;
 ghost use mathlib.Core.Path.{_≡_};
 ghost use Prim.Native.Nat.{_+_, _*_, _^_, min, max};
 ghost use Rattle.tree.specs.Tree.{leaf};
-ghost use Rattle.sizes.specs.Sizes.{smallest, largest, variable, both, limited, limitedSum, limitedProduct, then, toBytes, rounded, laid, Resolver, leafSize, countOf, wrapSize, primitiveBits, semanticBits, fixedOrOpen, optionalSize, multiplied, withoutLargest, widened, raised, added, varintEnd, zigZagEnd};
+ghost use Rattle.sizes.specs.Elements.{countOf};
+ghost use Rattle.sizes.specs.Sizes.{smallest, largest, variable, both, limited, limitedSum, limitedProduct, then, toBytes, rounded, laid, Resolver, leafSize, wrapSize, primitiveBits, semanticBits, fixedOrOpen, optionalSize, multiplied, withoutLargest, widened, raised, added, varintEnd, zigZagEnd, entrySize, upTo};
+ghost use Rattle.number.specs.Shortest.{groupsOf};
 ghost use Rattle.measures.specs.Cut.{cutSum, highOf};
 ghost use Rattle.measures.specs.Heads.{leafOf, wrapOf};
 
@@ -360,6 +362,58 @@ pub fn lay(field: Worked, layout: Layout) -> Worked
             Layout::Packed => Worked::Sized(size),
             Layout::Aligned => round_wire_size(size),
         },
+        Worked::Over(by) => Worked::Over(by),
+    }
+}
+
+// A map's key and value: only their largest count.
+fn entry_of_sizes(key: Size, value: Size) -> Worked
+    ensures { λ r. ⌜ r ≡ limitedSum (entrySize key value) ⌝ }
+{
+    let entry = vary(
+        0,
+        sum_bounds(wire_size_max_bits(key), wire_size_max_bits(value)),
+    );
+    within_limit(Operation::Sum, entry)
+}
+
+// The same, once the value was worked out too.
+pub fn entry_wire_size(key: Size, value: Worked) -> Worked
+    ensures { λ r. ⌜ r ≡ then value (λ v. limitedSum (entrySize key v)) ⌝ }
+{
+    match value {
+        Worked::Sized(size) => entry_of_sizes(key, size),
+        Worked::Over(by) => Worked::Over(by),
+    }
+}
+
+// So many elements in all, and 8 for each group of that number.
+fn count_bits(all: Size, most: u64) -> Worked
+    ensures { λ r. ⌜ r ≡ limitedSum (Size.Bounded 8 (8 * groupsOf most + smallest all)) ⌝ }
+{
+    let high = sum(8 * number::groups_of(most), wire_size_min_bits(all));
+    within_limit(Operation::Sum, Size::Bounded(8, high))
+}
+
+// At most so many elements: a product, and then a sum.
+fn up_to(high: Bound, most: u64) -> Worked
+    ensures { λ r. ⌜ r ≡ upTo most (highOf high) ⌝ }
+{
+    match high {
+        Bound::Most(h) => match multiply_wire_size(Size::Fixed(h), most) {
+            Worked::Sized(all) => count_bits(all, most),
+            Worked::Over(by) => Worked::Over(by),
+        },
+        Bound::None => Worked::Sized(Size::Open(8)),
+    }
+}
+
+// A field that a limit bears on, once its element was worked out.
+pub fn limited_wire_size(element: Worked, most: u64) -> Worked
+    ensures { λ r. ⌜ r ≡ then element (λ s. upTo most (largest s)) ⌝ }
+{
+    match element {
+        Worked::Sized(size) => up_to(wire_size_max_bits(size), most),
         Worked::Over(by) => Worked::Over(by),
     }
 }

@@ -1,3 +1,4 @@
 pub mod Number
+pub mod Shortest
 pub mod Grammar
 pub mod Answers

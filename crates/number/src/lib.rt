@@ -2,6 +2,7 @@
 ghost use mathlib.Core.Path.{_≡_};
 ghost use Prim.Native.Nat.{_^_};
 ghost use Rattle.number.specs.Number.{numberAt};
+ghost use Rattle.number.specs.Shortest.{groupsOf};
 ghost use Rattle.number.specs.Grammar.{Role, below, number, many, counted, read};
 ghost use Rattle.number.specs.Answers.{outcome, next, follow};
 
@@ -52,6 +53,19 @@ pub fn read_number(image: &[u8], at: usize) -> Number
     } else {
         Number::Refused(3)
     }
+}
+
+// How many groups a number takes in its shortest form.
+pub fn groups_of(number: u64) -> u64
+    ensures { λ r. ⌜ r ≡ groupsOf number ⌝ }
+{
+    let mut groups: u64 = 1;
+    let mut rest = number;
+    while 128 <= rest {
+        rest /= 128;
+        groups += 1;
+    }
+    groups
 }
 
 // A number in its range with the position after it, or a refusal, 2, 3 or 4, with its place.

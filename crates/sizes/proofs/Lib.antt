@@ -1,3 +1,4 @@
 pub mod BitLength
 pub mod Mark
 pub mod Provisos
+pub mod Arrays

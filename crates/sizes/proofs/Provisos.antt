@@ -4,17 +4,17 @@ use Prim.Native.Nat.{ℕ, zero, suc, _+_, _≤_, _<_}
 use native.Mathlib.Omega.{arith}
 use mathlib.Core.List.{List, [], _∷_, List·Memᴰ, List·Memᴰ·head, List·Memᴰ·not-nil, List·Memᴰ·eq-of-singleton}
 use mathlib.Core.Option.{none, some, Option·none-ne-some}
-use Rattle.tree.specs.Tree.{Tree, wrap, array}
 use Rattle.tree.specs.Encoding.{default}
 use Rattle.slot.specs.Field.{Field, Stored}
 use Rattle.image.specs.Schema.{Schema, slotOf}
-use Rattle.sizes.specs.Sizes.{Layout, Packed, Aligned, roundUp, Size, Fixed, Bounded, Open, largest, limited, then, primitiveBits, leafSize, wrapSize, typeSize, encodedSize, fieldSize, addFields}
+use Rattle.sizes.specs.Elements.{limitedElement}
+use Rattle.sizes.specs.Sizes.{Layout, Packed, Aligned, roundUp, Size, Fixed, Bounded, Open, limited, then, primitiveBits, leafSize, wrapSize, typeSize, encodedSize, elementsSize, fieldSize, addFields}
 use Rattle.sizes.specs.Names.{contentIn, contentOf, State, contentSize, nameRule, nameWithin, nameSize}
 use Rattle.sizes.specs.Check.{brought, bodySize, ownSize, store, accepted, storing, turn, onward, turns, checkSizes, slotRow, rowsFrom, tableOf, sizeAt}
-use Rattle.sizes.specs.Lengths.{Length, ofPrimitive, ofNamed, ofWrap, ofElements, plain, FieldsLength, noField, oneField, ofMessage, SlotLength, typeParts, encodedParts, fieldsParts, contentParts, partsOf, Reaches, atOnce, byWayOf, NothingLeadsBack, Encloses}
+use Rattle.sizes.specs.Lengths.{ofPrimitive, ofNamed, unlimited, plain, FieldsLength, noField, oneField, ofMessage, SlotLength, typeParts, encodedParts, ownParts, fieldsParts, contentParts, partsOf, Reaches, atOnce, byWayOf, NothingLeadsBack, Encloses}
 use Rattle.sizes.specs.Demand.{isMessage, Declared, Attained, BringsNone}
 use Rattle.sizes.specs.Laws.{Plus}
-use Rattle.sizes.specs.Rules.{primitive-is, named-is, plain-is, FieldLength, message-is}
+use Rattle.sizes.specs.Rules.{primitive-is, named-is, plain-is, unlimited-is, FieldLength, message-is}
 use Rattle.sizes.specs.Enclosure.{own-enclosed}
 use Rattle.sizes.specs.Examples.{all, declaring, a-field, each, a-message, of, u8, slot, wrong}
 
@@ -48,13 +48,13 @@ abbrev untrusted : Schema
 untrusted = wrong (0 ∷ 1 ∷ [])
 
 untrusted-length : SlotLength Packed untrusted 0 8
-unfolding contentOf contentIn slotOf primitiveBits
+unfolding contentOf contentIn slotOf primitiveBits limitedElement
 untrusted-length =
-    let b : SlotLength Packed untrusted 1 8 = ofNamed (ofMessage (oneField {n = 8} (plain ofPrimitive) noField)) in
-    ofNamed (ofMessage (oneField {n = 8} (plain b) noField))
+    let b : SlotLength Packed untrusted 1 8 = ofNamed (ofMessage (oneField {f = a-field default u8} {n = 8} (unlimited (plain ofPrimitive)) noField)) in
+    ofNamed (ofMessage (oneField {f = a-field default (slot 1)} {n = 8} (unlimited (plain b)) noField))
 
 pub enclosed-untrusted : Refuted Packed EnclosedUntrusted
-unfolding checkSizes turns turn onward ownSize bodySize storing store brought nameSize nameWithin nameRule contentSize contentOf contentIn slotOf typeSize leafSize then limited primitiveBits encodedSize fieldSize addFields tableOf rowsFrom slotRow sizeAt
+unfolding checkSizes turns turn onward ownSize bodySize storing store brought nameSize nameWithin nameRule contentSize contentOf contentIn slotOf typeSize leafSize then limited primitiveBits encodedSize limitedElement elementsSize fieldSize addFields tableOf rowsFrom slotRow sizeAt
 enclosed-untrusted = record {
   schema = untrusted;
   final = store 1 (Fixed 8) (store 0 (Fixed 3) (brought untrusted));
@@ -72,7 +72,7 @@ abbrev undeclared : Schema
 undeclared = declaring (0 ∷ []) (of (slot 1 ∷ []) ∷ a-message (Stored.from 0) (each (u8 ∷ [])) ∷ [])
 
 part-is : (i j : ℕ) → List·Memᴰ j (partsOf undeclared i) → i < j
-unfolding contentOf contentIn slotOf contentParts fieldsParts encodedParts typeParts
+unfolding contentOf contentIn slotOf contentParts fieldsParts ownParts limitedElement encodedParts typeParts
 part-is zero j m = let e = List·Memᴰ·eq-of-singleton m in omega arith
 part-is (suc zero) j m = absurd (List·Memᴰ·not-nil m)
 part-is (suc (suc i)) j m = absurd (List·Memᴰ·not-nil m)
@@ -82,7 +82,7 @@ onward-only (atOnce m) = part-is _ _ m
 onward-only (byWayOf m r) = let a = part-is _ _ m in let b = onward-only r in omega arith
 
 pub attained-stored : Refuted Packed AttainedStored
-unfolding checkSizes turns turn onward ownSize bodySize storing store brought nameSize nameWithin nameRule contentSize contentOf contentIn slotOf typeSize leafSize then limited primitiveBits encodedSize fieldSize addFields tableOf rowsFrom slotRow sizeAt
+unfolding checkSizes turns turn onward ownSize bodySize storing store brought nameSize nameWithin nameRule contentSize contentOf contentIn slotOf typeSize leafSize then limited primitiveBits encodedSize limitedElement elementsSize fieldSize addFields tableOf rowsFrom slotRow sizeAt
 attained-stored = record {
   schema = undeclared;
   final = store 0 (Open 0) (brought undeclared);
@@ -112,14 +112,14 @@ module _ (L : Layout) where
   first-field f fs n (oneField {n = a} {m = b} l r) = (roundUp L a, b, (a, l, refl), r, refl)
 
   shorter : (n : ℕ) → SlotLength L looped 0 n → (m : ℕ) × SlotLength L looped 0 m × (m < n)
-  unfolding contentOf contentIn slotOf primitiveBits
+  unfolding contentOf contentIn slotOf primitiveBits limitedElement
   shorter n l =
       let (a, b, (x, byte, up), more, e) = first-field (a-field default u8) (each (slot 0 ∷ [])) n (message-is L looped _ n .1 (named-is L looped 0 n .1 l)) in
       let (c, z, (m, own, up′), rest, e′) = first-field (a-field default (slot 0)) [] b more in
-      let e″ = primitive-is L looped 1 x .1 (plain-is L looped u8 x .1 byte) in
+      let e″ = primitive-is L looped 1 x .1 (plain-is L looped u8 x .1 (unlimited-is L looped (a-field default u8) x .1 byte)) in
       let h = not-below L x in
       let h′ = not-below L m in
-      (m, plain-is L looped (slot 0) m .1 own, omega arith)
+      (m, plain-is L looped (slot 0) m .1 (unlimited-is L looped (a-field default (slot 0)) m .1 own), omega arith)
 
   none-below : (b n : ℕ) → n < b → SlotLength L looped 0 n → ⊥
   none-below zero n h l = omega arith
@@ -132,7 +132,7 @@ brings-none (suc i) = refl
 
 -- on either layout
 pub attained-looped : (L : Layout) → Refuted L AttainedLooped
-unfolding checkSizes turns turn onward ownSize bodySize storing store nameSize nameWithin nameRule contentSize contentOf contentIn slotOf typeSize leafSize then limited primitiveBits encodedSize fieldSize addFields tableOf rowsFrom slotRow sizeAt
+unfolding checkSizes turns turn onward ownSize bodySize storing store nameSize nameWithin nameRule contentSize contentOf contentIn slotOf typeSize leafSize then limited primitiveBits encodedSize limitedElement elementsSize fieldSize addFields tableOf rowsFrom slotRow sizeAt
 attained-looped L = record {
   schema = looped;
   final = store 0 (Open 8) (brought looped);
@@ -145,17 +145,3 @@ attained-looped L = record {
     by-layout : (L : Layout) → checkSizes L looped ≡ accepted (store 0 (Open 8) (brought looped))
     by-layout Packed = refl
     by-layout Aligned = refl
-
--- ## An array has no largest
-
--- no size with a largest encloses an array's lengths
-pub array-open : (L : Layout) (S : Schema) (t : Tree) (s : Size) → Encloses (Length L S (wrap array t)) s → largest s ≡ none
-array-open L S t s e = go s e
-  where
-    longer : (h : ℕ) → Length L S (wrap array t) (suc (8 + h))
-    longer h = ofWrap (ofElements {n = suc (8 + h)} (omega arith))
-
-    go : (s : Size) → Encloses (Length L S (wrap array t)) s → largest s ≡ none
-    go (Fixed b) e = let h : suc (8 + b) ≤ b = e .within (suc (8 + b)) (longer b) .notAbove in absurd (omega arith)
-    go (Bounded l b) e = let h : suc (8 + b) ≤ b = e .within (suc (8 + b)) (longer b) .notAbove in absurd (omega arith)
-    go (Open l) e = refl

@@ -1,14 +1,16 @@
 -- The image shown on the bench sheet, and cases at the edge; its starred lines stand where findings are known too.
 use mathlib.Core.Path.{_≡_, refl}
-use Prim.Native.Nat.{ℕ, suc, _-_, _^_}
+use Prim.Native.Nat.{ℕ, suc, _+_, _-_, _^_}
 use mathlib.Core.List.{List, [], _∷_, _++_, map}
-use Rattle.tree.specs.Tree.{Tree, leaf, wrap, fixedArray, pair, primitive, semantic, named, optional, array, vec2, resultOf}
-use Rattle.tree.specs.Encoding.{Encoding, default, varint, delta}
+use Rattle.number.specs.Shortest.{groupsWithin, groupsOf}
+use Rattle.tree.specs.Tree.{Tree, leaf, wrap, fixedArray, pair, primitive, semantic, named, optional, array, setOf, vec2, mapOf, resultOf}
+use Rattle.tree.specs.Encoding.{Encoding, default, varint, zigZag, delta}
 use Rattle.slot.specs.Field.{Field, Stored}
 use Rattle.slot.specs.Slot.{Slot, message, enum, flags, union, newtype}
 use Rattle.image.specs.Schema.{Schema, slotOf}
 use Rattle.sizes.specs.Widths.{highest, topOf, digits, bitLength, ordinalBits, enumBits, bytesTo, flagsBytes, has, enumBitsAt, flagsBytesAt}
-use Rattle.sizes.specs.Sizes.{Layout, Packed, Aligned, limited, then, refusalOf, primitiveBits, semanticBits, leafSize, wrapSize, typeSize, varintEnd, zigZagEnd, encodedSize, fieldSize, addFields, addVariants, unionSize}
+use Rattle.sizes.specs.Elements.{limitedElement}
+use Rattle.sizes.specs.Sizes.{Layout, Packed, Aligned, limited, then, refusalOf, primitiveBits, semanticBits, leafSize, wrapSize, typeSize, varintEnd, zigZagEnd, encodedSize, elementSize, elementsSize, fieldSize, addFields, addVariants, unionSize}
 use Rattle.sizes.specs.Names.{contentIn, contentOf, contentSize, nameRule, nameWithin, nameSize}
 use Rattle.sizes.specs.Check.{brought, bodySize, ownSize, store, Checked, accepted, refused, storing, turn, onward, turns, checkSizes, row, slotRow, rowsFrom, tableOf}
 
@@ -157,7 +159,7 @@ others =
     ∷ []
 
 pub others-hold : answered Packed others ≡ said others
-unfolding checkSizes turns turn onward ownSize bodySize storing store brought nameSize nameWithin nameRule contentSize contentOf contentIn slotOf typeSize leafSize wrapSize then limited primitiveBits semanticBits varintEnd zigZagEnd encodedSize fieldSize addFields addVariants unionSize tableOf rowsFrom slotRow enumBitsAt flagsBytesAt enumBits flagsBytes ordinalBits topOf bitLength digits highest bytesTo has
+unfolding checkSizes turns turn onward ownSize bodySize storing store brought nameSize nameWithin nameRule contentSize contentOf contentIn slotOf typeSize leafSize wrapSize then limited primitiveBits semanticBits varintEnd zigZagEnd encodedSize limitedElement elementsSize fieldSize addFields addVariants unionSize tableOf rowsFrom slotRow enumBitsAt flagsBytesAt enumBits flagsBytes ordinalBits topOf bitLength digits highest bytesTo has
 others-hold = refl
 
 -- ## The first step that passes the limit
@@ -191,7 +193,7 @@ firstSteps =
     ∷ []
 
 pub first-steps-hold : answered Packed firstSteps ≡ said firstSteps
-unfolding checkSizes turns turn onward ownSize bodySize storing store brought nameSize nameWithin nameRule contentSize contentOf contentIn slotOf typeSize leafSize wrapSize then limited primitiveBits semanticBits varintEnd zigZagEnd encodedSize fieldSize addFields addVariants unionSize tableOf rowsFrom slotRow
+unfolding checkSizes turns turn onward ownSize bodySize storing store brought nameSize nameWithin nameRule contentSize contentOf contentIn slotOf typeSize leafSize wrapSize then limited primitiveBits semanticBits varintEnd zigZagEnd encodedSize limitedElement elementsSize fieldSize addFields addVariants unionSize tableOf rowsFrom slotRow
 first-steps-hold = refl
 
 -- ## The head board
@@ -220,7 +222,7 @@ boardLines =
     ∷ []
 
 pub board-lines-hold : answered Aligned boardLines ≡ said boardLines
-unfolding checkSizes turns turn onward ownSize bodySize storing store brought nameSize nameWithin nameRule contentSize contentOf contentIn slotOf typeSize leafSize wrapSize then limited primitiveBits semanticBits varintEnd zigZagEnd encodedSize fieldSize addFields addVariants unionSize tableOf rowsFrom slotRow enumBitsAt has enumBits ordinalBits topOf bitLength digits highest
+unfolding checkSizes turns turn onward ownSize bodySize storing store brought nameSize nameWithin nameRule contentSize contentOf contentIn slotOf typeSize leafSize wrapSize then limited primitiveBits semanticBits varintEnd zigZagEnd encodedSize limitedElement elementsSize fieldSize addFields addVariants unionSize tableOf rowsFrom slotRow enumBitsAt has enumBits ordinalBits topOf bitLength digits highest
 board-lines-hold = refl
 
 -- the last of them on the ordinary layout
@@ -228,7 +230,7 @@ abbrev pub unrounded : List Line
 unrounded = shows (all (of (fixedArray (slot 1) (2 ^ 60) ∷ []) ∷ of (bool ∷ []) ∷ [])) (row 1 (2 ^ 60) (2 ^ 60) ++ row 1 1 1) ∷ []
 
 pub unrounded-holds : answered Packed unrounded ≡ said unrounded
-unfolding checkSizes turns turn onward ownSize bodySize storing store brought nameSize nameWithin nameRule contentSize contentOf contentIn slotOf typeSize leafSize wrapSize then limited primitiveBits semanticBits varintEnd zigZagEnd encodedSize fieldSize addFields addVariants unionSize tableOf rowsFrom slotRow
+unfolding checkSizes turns turn onward ownSize bodySize storing store brought nameSize nameWithin nameRule contentSize contentOf contentIn slotOf typeSize leafSize wrapSize then limited primitiveBits semanticBits varintEnd zigZagEnd encodedSize limitedElement elementsSize fieldSize addFields addVariants unionSize tableOf rowsFrom slotRow
 unrounded-holds = refl
 
 -- ## Retired ones
@@ -265,7 +267,7 @@ retiredLines =
     ∷ []
 
 pub retired-lines-hold : answered Packed retiredLines ≡ said retiredLines
-unfolding checkSizes turns turn onward ownSize bodySize storing store brought nameSize nameWithin nameRule contentSize contentOf contentIn slotOf typeSize leafSize wrapSize then limited primitiveBits semanticBits varintEnd zigZagEnd encodedSize fieldSize addFields addVariants unionSize tableOf rowsFrom slotRow enumBitsAt flagsBytesAt enumBits flagsBytes ordinalBits topOf bitLength digits highest bytesTo has
+unfolding checkSizes turns turn onward ownSize bodySize storing store brought nameSize nameWithin nameRule contentSize contentOf contentIn slotOf typeSize leafSize wrapSize then limited primitiveBits semanticBits varintEnd zigZagEnd encodedSize limitedElement elementsSize fieldSize addFields addVariants unionSize tableOf rowsFrom slotRow enumBitsAt flagsBytesAt enumBits flagsBytes ordinalBits topOf bitLength digits highest bytesTo has
 retired-lines-hold = refl
 
 -- 9 bits take two bytes on the head board
@@ -273,5 +275,67 @@ abbrev pub retiredOnBoard : List Line
 retiredOnBoard = shows (all (of (slot 1 ∷ slot 1 ∷ []) ∷ retiring (0 ∷ []) (256 ∷ []) ∷ [])) (row 1 32 32 ++ row 4 9 0) ∷ []
 
 pub retired-on-board-holds : answered Aligned retiredOnBoard ≡ said retiredOnBoard
-unfolding checkSizes turns turn onward ownSize bodySize storing store brought nameSize nameWithin nameRule contentSize contentOf contentIn slotOf typeSize leafSize wrapSize then limited primitiveBits semanticBits varintEnd zigZagEnd encodedSize fieldSize addFields addVariants unionSize tableOf rowsFrom slotRow enumBitsAt has enumBits ordinalBits topOf bitLength digits highest
+unfolding checkSizes turns turn onward ownSize bodySize storing store brought nameSize nameWithin nameRule contentSize contentOf contentIn slotOf typeSize leafSize wrapSize then limited primitiveBits semanticBits varintEnd zigZagEnd encodedSize limitedElement elementsSize fieldSize addFields addVariants unionSize tableOf rowsFrom slotRow enumBitsAt has enumBits ordinalBits topOf bitLength digits highest
 retired-on-board-holds = refl
+
+-- ## What an array really takes
+
+-- a message of one field with a limit
+abbrev limited-to : ℕ → Encoding → Tree → Slot
+limited-to n e t = a-message Stored.none (record { fieldName = 0; encoding = e; type = t; limit = n } ∷ [])
+
+abbrev up-to : ℕ → Tree → Slot
+up-to n t = limited-to n default t
+
+abbrev no-bits : Tree
+no-bits = fixedArray bool 0
+
+abbrev bools : ℕ → Tree
+bools n = fixedArray bool n
+
+abbrev pub limitLines : List Line
+limitLines =
+    -- elements of no bits: the groups of the limit count, and 8..8 is not Fixed
+    shows (all (up-to 127 (wrap array no-bits) ∷ up-to 128 (wrap array no-bits) ∷ [])) (row 2 8 8 ++ row 2 8 16)
+    -- each of the three kinds, and Delta down to Default
+    ∷ shows (all (up-to 3 (wrap setOf u8) ∷ up-to 3 (pair mapOf u8 bool) ∷ limited-to 3 (delta (delta default)) (wrap array u16) ∷ []))
+    (row 2 8 32 ++ row 2 8 35 ++ row 2 8 56)
+    -- 0 is no limit; an element without largest has none
+    ∷ shows (all (up-to 0 (wrap array u8) ∷ up-to 2 (wrap array string) ∷ up-to 2 (pair mapOf u8 string) ∷ [])) (row 3 8 0 ++ row 3 8 0 ++ row 3 8 0)
+    -- the inner of two arrays has no limit
+    ∷ shows (all (up-to 3 (wrap array (wrap array u8)) ∷ [])) (row 3 8 0)
+    -- a limit is ignored on U8, under Optional, through a newtype, under Varint and ZigZag
+    ∷ shows
+    (all (up-to 2 u8 ∷ up-to 2 (wrap optional (wrap array u8)) ∷ up-to 2 (slot 3) ∷ a-newtype (wrap array u8) ∷ limited-to 2 varint (wrap array u8) ∷ limited-to 2 (delta zigZag) (wrap array u8) ∷ []))
+    (row 1 8 8 ++ row 3 1 0 ++ row 3 8 0 ++ row 0 0 0 ++ row 2 8 80 ++ row 2 8 80)
+    -- A { Array<A> limit 2 }: what is being worked out has no largest
+    ∷ shows (all (up-to 2 (wrap array (slot 0)) ∷ [])) (row 3 8 0)
+    -- the elements of an array without limit are not worked out, those of a limited one are
+    ∷ shows (all (up-to 0 (wrap array over) ∷ [])) (row 3 8 0)
+    ∷ refuses (all (up-to 1 (wrap array over) ∷ [])) 14 0
+    -- a map's value is worked out though its key has no largest
+    ∷ refuses (all (up-to 2 (pair mapOf string over) ∷ [])) 14 0
+    -- largest key and largest value are a sum, made before the product
+    ∷ refuses (all (up-to 4 (pair mapOf (bools (2 ^ 62)) (bools (2 ^ 62))) ∷ [])) 11 0
+    -- the product, and then the sum, to the last bit
+    ∷ shows (all (up-to (2 ^ 32 - 1) (wrap array (bools (2 ^ 31))) ∷ [])) (row 2 8 (2 ^ 63 - 2 ^ 31 + 40))
+    ∷ refuses (all (up-to (2 ^ 32 - 1) (wrap array (bools (2 ^ 31 + 1))) ∷ [])) 14 0
+    ∷ shows (all (up-to 1 (wrap array (bools (2 ^ 63 - 9))) ∷ [])) (row 2 8 (2 ^ 63 - 1))
+    ∷ refuses (all (up-to 1 (wrap array (bools (2 ^ 63 - 8))) ∷ [])) 11 0
+    ∷ []
+
+pub limits-hold : answered Packed limitLines ≡ said limitLines
+unfolding checkSizes turns turn onward ownSize bodySize storing store brought nameSize nameWithin nameRule contentSize contentOf contentIn slotOf typeSize leafSize wrapSize then limited primitiveBits semanticBits varintEnd zigZagEnd encodedSize limitedElement elementSize elementsSize groupsOf groupsWithin fieldSize addFields addVariants unionSize tableOf rowsFrom slotRow
+limits-hold = refl
+
+-- on the head board the field is rounded, not its elements: 8..11 is 8..16
+abbrev pub limitsOnBoard : List Line
+limitsOnBoard =
+    shows (all (up-to 3 (wrap array bool) ∷ [])) (row 2 8 16)
+    ∷ shows (all (up-to 8 (wrap array bool) ∷ [])) (row 2 8 16)
+    ∷ refuses (all (up-to 1 (wrap array (bools (2 ^ 63 - 9))) ∷ [])) 11 0
+    ∷ []
+
+pub limits-on-board-hold : answered Aligned limitsOnBoard ≡ said limitsOnBoard
+unfolding checkSizes turns turn onward ownSize bodySize storing store brought nameSize nameWithin nameRule contentSize contentOf contentIn slotOf typeSize leafSize wrapSize then limited primitiveBits semanticBits varintEnd zigZagEnd encodedSize limitedElement elementSize elementsSize groupsOf groupsWithin fieldSize addFields addVariants unionSize tableOf rowsFrom slotRow
+limits-on-board-hold = refl

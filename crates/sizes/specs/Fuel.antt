@@ -7,7 +7,7 @@ use native.Mathlib.Nat.{mul-le-mul-right}
 use native.Mathlib.Decide.{ℕ-discrete}
 use mathlib.Core.Bool.{Bool, true, false, cond}
 use mathlib.Core.List.{List, [], _∷_, List·Memᴰ, List·Memᴰ·head, Memᴰ·append-left, Memᴰ·append-right}
-use mathlib.Core.Option.{Option, some}
+use mathlib.Core.Option.{Option, none, some}
 use mathlib.Core.Logic.{by-cases}
 use lib.ListN.{length, getD, set}
 use lib.Seq.{getD-set-same, getD-set-other}
@@ -16,10 +16,11 @@ use Rattle.tree.specs.Tree.{Tree, Leaf, leaf, wrap, fixedArray, pair, generic, 
 use Rattle.tree.specs.Encoding.{Encoding, default, varint, zigZag, delta}
 use Rattle.slot.specs.Field.{Field}
 use Rattle.image.specs.Schema.{Schema}
-use Rattle.sizes.specs.Sizes.{Layout, laid, Size, Fixed, Bounded, Open, Worked, Sized, limitedSum, then, Resolver, leafSize, widened, Count, atMostOne, anyNumber, exactly, countOf, wrapSize, typeSize, encodedSize, fieldSize, added, addFields, mark, addVariants, unionSize}
+use Rattle.sizes.specs.Elements.{Count, atMostOne, anyNumber, exactly, countOf, Element, item, entry, limitedElement}
+use Rattle.sizes.specs.Sizes.{Layout, laid, Size, Fixed, Bounded, Open, Worked, Sized, limitedSum, then, Resolver, leafSize, widened, wrapSize, typeSize, encodedSize, elementSize, elementsSize, fieldSize, added, addFields, mark, addVariants, unionSize}
 use Rattle.sizes.specs.Names.{Content, fields, variants, bits, terminal, anything, contentOf, State, Working, inserted, orElse, contentSize, nameRule, nameWithin, enough, nameSize, GoesByRule, NamesObey}
 use Rattle.sizes.specs.Check.{bodySize}
-use Rattle.sizes.specs.Lengths.{wrapParts, typeParts, encodedParts, fieldsParts, variantsParts, contentParts, terminalParts, terminalsOf, NewtypesEnd}
+use Rattle.sizes.specs.Lengths.{wrapParts, typeParts, encodedParts, elementParts, ownParts, fieldParts, fieldsParts, variantsParts, contentParts, terminalParts, terminalsOf, NewtypesEnd}
 use Rattle.sizes.specs.Rank.{unmarkedBelow, unmarked-all, unmarked-fresh, part-below, terminalRank, terminal-rank, terminal-rank-bound}
 
 -- ## Two resolvers that agree on the parts of a thing give it one size
@@ -63,6 +64,20 @@ module _ (r r′ : Resolver) where
   encoded-agree zigZag t h = refl
   encoded-agree (delta e) t h = encoded-agree e t h
 
+  element-agree : (e : Element) → Agree r r′ (elementParts e) → elementSize r e ≡ elementSize r′ e
+  unfolding elementSize elementParts
+  element-agree (item t) h = type-agree t h
+  element-agree (entry t u) h =
+      let a = type-agree t (λ j p. h j (Memᴰ·append-left (typeParts u) p)) in
+      let b = type-agree u (λ j p. h j (Memᴰ·append-right (typeParts t) p)) in
+      rw (a, b)
+
+  own-agree : (n : ℕ) (o : Option Element) (w w′ : Worked) (js : List ℕ) → (Agree r r′ js → w ≡ w′) → Agree r r′ (ownParts o js) →
+      elementsSize r n o w ≡ elementsSize r′ n o w′
+  unfolding elementsSize ownParts
+  own-agree n none w w′ js e h = e h
+  own-agree n (some x) w w′ js e h = rw (element-agree x h)
+
   module _ (L : Layout) where
     fields-agree : (fs : List Field) → Agree r r′ (fieldsParts fs) → (total : Size) →
         addFields L r total fs ≡ addFields L r′ total fs
@@ -70,8 +85,8 @@ module _ (r r′ : Resolver) where
     fields-agree [] h total = refl
     fields-agree (f ∷ fs) h total =
         ap₂ (λ (x : Worked) (y : Size → Worked). then (then x (laid L)) (λ s. then (limitedSum (added total s)) y))
-        (encoded-agree (f .encoding) (f .type) (λ j p. h j (Memᴰ·append-left (fieldsParts fs) p)))
-        (fun-ext (fields-agree fs (λ j p. h j (Memᴰ·append-right (encodedParts (f .encoding) (f .type)) p))))
+        (own-agree (f .limit) (limitedElement f) _ _ _ (encoded-agree (f .encoding) (f .type)) (λ j p. h j (Memᴰ·append-left (fieldsParts fs) p)))
+        (fun-ext (fields-agree fs (λ j p. h j (Memᴰ·append-right (fieldParts f) p))))
 
     variants-agree : (vs : List (List Field)) → Agree r r′ (variantsParts vs) → (extremes : Size) →
         addVariants L r extremes vs ≡ addVariants L r′ extremes vs

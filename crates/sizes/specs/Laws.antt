@@ -4,9 +4,11 @@ use mathlib.Core.Path.{_≡_, refl}
 use Prim.Native.Nat.{ℕ, zero, suc, _+_, _*_, min, max, _≤_}
 use native.Mathlib.Omega.{arith}
 use native.Mathlib.Decide.{decLe}
-use native.Mathlib.Nat.{min-eq-left, max-eq-right, mul-le-mul-right}
+use native.Mathlib.Nat.{min-eq-left, max-eq-right, mul-le-mul-left, mul-le-mul-right}
 use mathlib.Core.Option.{Option, none, some}
 use mathlib.Core.Logic.{_⊎_, inl, inr, _↔_, ⊎-elim, by-cases}
+use Rattle.number.specs.Shortest.{groupsWithin, groupsOf}
+use Rattle.number.proofs.Shortest.{groups-one, groups-some, groups-rise}
 use Rattle.sizes.specs.Sizes.{both}
 use Rattle.sizes.specs.Lengths.{InSpan, AtMost}
 use Rattle.sizes.specs.Demand.{AtLargest}
@@ -25,6 +27,14 @@ More k P n = (m : ℕ) × P m × (n ≡ k + m)
 pub data Sums (P : ℕ → Type 0) : (count n : ℕ) → Type 0 where
   noMore : Sums P 0 0
   oneMore : {k n m : ℕ} → P n → Sums P k m → Sums P (suc k) (n + m)
+
+-- a count, at most so great, in groups, and that many of them
+pub record CountOf (P : ℕ → Type 0) (most n : ℕ) : Type 0 where
+  pub count : ℕ
+  pub few : count ≤ most
+  pub bits : ℕ
+  pub elements : Sums P count bits
+  pub whole : n ≡ 8 * groupsOf count + bits
 
 -- one or the other
 abbrev pub Either : (P Q : ℕ → Type 0) → ℕ → Type 0
@@ -55,6 +65,8 @@ pub record Laws (R : Relation) : Type 1 where
   pub optional : (P : ℕ → Type 0) (l : ℕ) (h : Option ℕ) → R P l h →
       R (Either (λ n. n ≡ 1) (More 1 P)) 1 (both _+_ (some 1) h)
   pub times : (k : ℕ) (P : ℕ → Type 0) (l : ℕ) (h : Option ℕ) → R P l h → R (Sums P k) (l * k) (both _*_ h (some k))
+  pub counted : (most : ℕ) (P : ℕ → Type 0) → R (CountOf P most) 8 none
+  pub upTo : (most : ℕ) (P : ℕ → Type 0) (l h : ℕ) → R P l (some h) → R (CountOf P most) 8 (some (8 * groupsOf most + h * most))
   pub dropped : (P : ℕ → Type 0) (l : ℕ) (h : Option ℕ) → R P l h → R P l none
   pub either : (P Q : ℕ → Type 0) (l m : ℕ) (h k : Option ℕ) → R P l h → R Q m k →
       R (Either P Q) (min l m) (both max h k)
@@ -81,6 +93,16 @@ sums-between P l none f (oneMore {n = n} p ps) = let a = f n p in let b = sums-b
 times-ordered : (k l : ℕ) (h : Option ℕ) → AtMost l h → AtMost (l * k) (both _*_ h (some k))
 times-ordered k l (some h) o = mul-le-mul-right k o
 times-ordered k l none o = tt
+
+-- a count takes a group
+from-eight : (count bits : ℕ) → 8 ≤ 8 * groupsOf count + bits
+unfolding groupsOf
+from-eight k n = omega (arith, groups-some 9 k)
+
+-- a lesser count takes no more groups, and no more of a largest
+within-most : (most k h n : ℕ) → k ≤ most → n ≤ h * k → 8 * groupsOf k + n ≤ 8 * groupsOf most + h * most
+unfolding groupsOf
+within-most most k h n le s = omega (arith, groups-rise 9 k most le, mul-le-mul-left h le)
 
 plus-between : (l m : ℕ) (h k : Option ℕ) (a b : ℕ) → Between l h a → Between m k b →
     Between (l + m) (both _+_ h k) (a + b)
@@ -143,6 +165,13 @@ around = record {
     between = λ n. ⊎-elim (λ e. rw e (absent-between h)) (λ (m, p, e). rw e (optional-between l h m (a .between m p)));
   };
   times = λ k P l h a. record { ordered = times-ordered k l h (a .ordered); between = λ n s. sums-between P l h (a .between) s };
+  counted = λ most P. record { ordered = tt; between = λ n c. rw (c .whole) (record { notBelow = from-eight (c .count) (c .bits); notAbove = tt }) };
+  upTo = λ most P l h a. record {
+    ordered = from-eight most (h * most);
+    between = λ n c.
+        let s = sums-between P l (some h) (a .between) (c .elements) .notAbove in
+        rw (c .whole) (record { notBelow = from-eight (c .count) (c .bits); notAbove = within-most most (c .count) h (c .bits) (c .few) s });
+  };
   dropped = λ P l h a. record { ordered = tt; between = λ n p. record { notBelow = a .between n p .notBelow; notAbove = tt } };
   either = λ P Q l m h k a b. record {
     ordered = either-ordered l m h k (a .ordered);
@@ -175,7 +204,7 @@ high-both P Q X op f (some h) (some k) p q = f h k p q
 high-both P Q X op f (some h) none p q = tt
 high-both P Q X op f none k p q = tt
 
-sums-of : (P : ℕ → Type 0) (n : ℕ) → P n → (k : ℕ) → Sums P k (n * k)
+pub sums-of : (P : ℕ → Type 0) (n : ℕ) → P n → (k : ℕ) → Sums P k (n * k)
 sums-of P n p zero = let e : n * 0 ≡ 0 = omega arith in rw e noMore
 sums-of P n p (suc k) = let e : n * suc k ≡ n + n * k = omega arith in rw e (oneMore p (sums-of P n p k))
 
@@ -184,6 +213,13 @@ at-min X a b p q = by-cases (decLe a b) (λ h. rw (min-eq-left h) p) (λ h. let 
 
 at-max : (X : ℕ → Type 0) (a b : ℕ) → X a → X b → X (max a b)
 at-max X a b p q = by-cases (decLe a b) (λ h. rw (max-eq-right h) q) (λ h. let e : max a b ≡ a = omega arith in rw e p)
+
+one-group : 8 ≡ 8 * groupsOf 0 + 0
+unfolding groupsOf
+one-group = omega (arith, groups-one 9 0 (omega arith))
+
+no-elements : (P : ℕ → Type 0) (most : ℕ) → CountOf P most 8
+no-elements P most = record { count = 0; few = omega arith; bits = 0; elements = noMore; whole = one-group }
 
 high-upper : (up : ℕ → ℕ) (P : ℕ → Type 0) (h : Option ℕ) → AtLargest P h → AtLargest (RoundedTo up P) (upper up h)
 high-upper up P (some h) p = (h, p, refl)
@@ -203,6 +239,11 @@ ends = record {
   times = λ k P l h a. record {
     low = sums-of P l (a .low) k;
     high = high-both P (λ n. n ≡ k) (Sums P k) _*_ (λ n x p e. rw e (sums-of P n p k)) h (some k) (a .high) refl;
+  };
+  counted = λ most P. record { low = no-elements P most; high = tt };
+  upTo = λ most P l h a. record {
+    low = no-elements P most;
+    high = record { count = most; few = omega arith; bits = h * most; elements = sums-of P h (a .high) most; whole = refl };
   };
   dropped = λ P l h a. record { low = a .low; high = tt };
   either = λ P Q l m h k a b. record {

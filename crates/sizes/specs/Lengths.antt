@@ -1,14 +1,16 @@
 -- Lengths of values, and what a type is made of.
 use mathlib.Core.Path.{_≡_}
-use Prim.Native.Nat.{ℕ, suc, _+_, _%_, _≤_}
+use Prim.Native.Nat.{ℕ, suc, _+_, _-_, _*_, _^_, _%_, _≤_}
 use mathlib.Core.List.{List, [], _∷_, _++_, List·Memᴰ}
 use mathlib.Core.Option.{Option, none, some}
 use lib.ListN.{length}
+use Rattle.number.specs.Shortest.{groupsOf}
 use Rattle.tree.specs.Tree.{Tree, Leaf, Wrap, leaf, wrap, fixedArray, pair, generic, primitive, subByte, semantic, named, bitsInline, qualified, mapOf, resultOf}
 use Rattle.tree.specs.Encoding.{Encoding, default, varint, zigZag, delta}
 use Rattle.slot.specs.Field.{Field}
 use Rattle.image.specs.Schema.{Schema}
-use Rattle.sizes.specs.Sizes.{Size, Layout, roundUp, smallest, largest, primitiveBits, semanticBits, Count, atMostOne, anyNumber, exactly, countOf, varintEnd, zigZagEnd}
+use Rattle.sizes.specs.Elements.{Count, atMostOne, anyNumber, exactly, countOf, Element, item, entry, limitedElement}
+use Rattle.sizes.specs.Sizes.{Size, Layout, roundUp, smallest, largest, primitiveBits, semanticBits, varintEnd, zigZagEnd}
 use Rattle.sizes.specs.Names.{Content, fields, variants, bits, terminal, anything, contentOf, State}
 
 -- ## The length rules
@@ -24,6 +26,10 @@ pub record InSpan (end n : ℕ) : Type 0 where
   pub least : 8 ≤ n
   pub most : n ≤ end
 
+-- counts are below 2^64
+abbrev pub mostElements : ℕ
+mostElements = 2 ^ 64 - 1
+
 mutual
   -- a value of the type may have this length in bits
   pub data Length (L : Layout) (S : Schema) : Tree → ℕ → Type 0 where
@@ -34,8 +40,8 @@ mutual
     ofBitsInline : {ns : List ℕ} → Length L S (leaf (bitsInline ns)) (length ns)
     ofQualified : {k n : ℕ} → Length L S (leaf (qualified k)) n
     ofWrap : {w : Wrap} {t : Tree} {n : ℕ} → WrapLength L S (countOf w) t n → Length L S (wrap w t) n
-    ofFixedArray : {t : Tree} {k n : ℕ} → Copies L S t k n → Length L S (fixedArray t k) n
-    ofMap : {t u : Tree} {n : ℕ} → 8 ≤ n → Length L S (pair mapOf t u) n
+    ofFixedArray : {t : Tree} {k n : ℕ} → Several L S (item t) k n → Length L S (fixedArray t k) n
+    ofMap : {t u : Tree} {n : ℕ} → Counted L S (entry t u) mostElements n → Length L S (pair mapOf t u) n
     ofOk : {t u : Tree} {n : ℕ} → Length L S t n → Length L S (pair resultOf t u) (1 + n)
     ofErr : {t u : Tree} {n : ℕ} → Length L S u n → Length L S (pair resultOf t u) (1 + n)
     ofGeneric : {k n : ℕ} {t : Tree} → Length L S (generic k t) n
@@ -45,13 +51,22 @@ mutual
     absent : {t : Tree} → WrapLength L S atMostOne t 1
     present : {t : Tree} {n : ℕ} → Length L S t n → WrapLength L S atMostOne t (1 + n)
     -- Array, Set
-    ofElements : {t : Tree} {n : ℕ} → 8 ≤ n → WrapLength L S anyNumber t n
-    ofCopies : {t : Tree} {k n : ℕ} → Copies L S t k n → WrapLength L S (exactly k) t n
+    ofElements : {t : Tree} {n : ℕ} → Counted L S (item t) mostElements n → WrapLength L S anyNumber t n
+    ofCopies : {t : Tree} {k n : ℕ} → Several L S (item t) k n → WrapLength L S (exactly k) t n
 
-  -- a sum of that many lengths of the type
-  pub data Copies (L : Layout) (S : Schema) : Tree → ℕ → ℕ → Type 0 where
-    noCopy : {t : Tree} → Copies L S t 0 0
-    oneCopy : {t : Tree} {k n m : ℕ} → Length L S t n → Copies L S t k m → Copies L S t (suc k) (n + m)
+  -- a count, at most so great, in groups of seven bits, and that many elements
+  pub data Counted (L : Layout) (S : Schema) : Element → (most : ℕ) → ℕ → Type 0 where
+    ofCount : {e : Element} {most k n : ℕ} → k ≤ most → Several L S e k n → Counted L S e most (8 * groupsOf k + n)
+
+  -- a sum of that many elements' lengths; elements may repeat
+  pub data Several (L : Layout) (S : Schema) : Element → (count : ℕ) → ℕ → Type 0 where
+    noElement : {e : Element} → Several L S e 0 0
+    oneElement : {e : Element} {k n m : ℕ} → ElementLength L S e n → Several L S e k m → Several L S e (suc k) (n + m)
+
+  -- a map's element is key and value
+  pub data ElementLength (L : Layout) (S : Schema) : Element → ℕ → Type 0 where
+    ofItem : {t : Tree} {n : ℕ} → Length L S t n → ElementLength L S (item t) n
+    ofEntry : {t u : Tree} {n m : ℕ} → Length L S t n → Length L S u m → ElementLength L S (entry t u) (n + m)
 
   -- a type in an encoding
   pub data EncodedLength (L : Layout) (S : Schema) : Encoding → Tree → ℕ → Type 0 where
@@ -60,10 +75,15 @@ mutual
     ofZigZag : {t : Tree} {n : ℕ} → InSpan (zigZagEnd t) n → EncodedLength L S zigZag t n
     ofDelta : {e : Encoding} {t : Tree} {n : ℕ} → EncodedLength L S e t n → EncodedLength L S (delta e) t n
 
+  -- a field by itself: as its type in its encoding is, unless its limit bears on elements
+  pub data OwnLength (L : Layout) (S : Schema) : Option Element → Field → ℕ → Type 0 where
+    unlimited : {f : Field} {n : ℕ} → EncodedLength L S (f .encoding) (f .type) n → OwnLength L S none f n
+    limitedTo : {f : Field} {e : Element} {n : ℕ} → Counted L S e (f .limit) n → OwnLength L S (some e) f n
+
   -- a sum over fields
   pub data FieldsLength (L : Layout) (S : Schema) : List Field → ℕ → Type 0 where
     noField : FieldsLength L S [] 0
-    oneField : {f : Field} {fs : List Field} {n m : ℕ} → EncodedLength L S (f .encoding) (f .type) n →
+    oneField : {f : Field} {fs : List Field} {n m : ℕ} → OwnLength L S (limitedElement f) f n →
         FieldsLength L S fs m → FieldsLength L S (f ∷ fs) (roundUp L n + m)
 
   -- what a name stands for
@@ -86,7 +106,7 @@ leafParts (named i) = i ∷ []
 leafParts (bitsInline ns) = []
 leafParts (qualified n) = []
 
--- elements of Array and Set are no parts
+-- elements of Array and Set are no parts of a type
 abbrev pub wrapParts : Count → (child : List ℕ) → List ℕ
 wrapParts atMostOne child = child
 wrapParts anyNumber child = []
@@ -108,9 +128,21 @@ encodedParts varint t = []
 encodedParts zigZag t = []
 encodedParts (delta e) t = encodedParts e t
 
+unfoldable pub elementParts : Element → List ℕ
+elementParts (item t) = typeParts t
+elementParts (entry t u) = typeParts t ++ typeParts u
+
+-- elements that a limit bears on are parts
+unfoldable pub ownParts : Option Element → (otherwise : List ℕ) → List ℕ
+ownParts none otherwise = otherwise
+ownParts (some e) otherwise = elementParts e
+
+abbrev pub fieldParts : Field → List ℕ
+fieldParts f = ownParts (limitedElement f) (encodedParts (f .encoding) (f .type))
+
 unfoldable pub fieldsParts : List Field → List ℕ
 fieldsParts [] = []
-fieldsParts (f ∷ fs) = encodedParts (f .encoding) (f .type) ++ fieldsParts fs
+fieldsParts (f ∷ fs) = fieldParts f ++ fieldsParts fs
 
 unfoldable pub variantsParts : List (List Field) → List ℕ
 variantsParts [] = []

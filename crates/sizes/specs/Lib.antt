@@ -1,5 +1,7 @@
 pub mod Widths
+pub mod Elements
 pub mod Sizes
+pub mod Limits
 pub mod Names
 pub mod Check
 pub mod Lengths

@@ -4,15 +4,17 @@ use Prim.Native.Nat.{ℕ, zero, suc, _+_, _≤_}
 use native.Mathlib.Omega.{arith}
 use mathlib.Core.List.{List, [], _∷_, List·Memᴰ, List·Memᴰ·head, List·Memᴰ·tail, List·Memᴰ·not-nil, List·Memᴰ·cases-cons}
 use mathlib.Core.Logic.{_⊎_, inl, inr, _↔_, ⊎-elim}
+use mathlib.Core.Option.{none, some}
 use lib.ListN.{length, getD}
 use Rattle.tree.specs.Tree.{Tree, Leaf, Wrap, leaf, wrap, fixedArray, pair, generic, primitive, subByte, semantic, named, bitsInline, qualified, mapOf, resultOf}
 use Rattle.tree.specs.Encoding.{Encoding, default, varint, zigZag, delta}
 use Rattle.slot.specs.Field.{Field}
 use Rattle.image.specs.Schema.{Schema}
-use Rattle.sizes.specs.Sizes.{Layout, roundUp, primitiveBits, semanticBits, atMostOne, anyNumber, exactly, countOf, leafSpan, spanEnd, varintEnd, zigZagEnd}
+use Rattle.sizes.specs.Elements.{atMostOne, anyNumber, exactly, countOf, Element, item, entry, limitedElement}
+use Rattle.sizes.specs.Sizes.{Layout, roundUp, primitiveBits, semanticBits, leafSpan, spanEnd, varintEnd, zigZagEnd}
 use Rattle.sizes.specs.Names.{fields, variants, bits, terminal, contentOf}
-use Rattle.sizes.specs.Lengths.{FixedOrAny, InSpan, Length, ofPrimitive, ofSubByte, ofSemantic, ofNamed, ofBitsInline, ofWrap, ofFixedArray, ofMap, ofOk, ofErr, WrapLength, absent, present, ofElements, ofCopies, Copies, noCopy, oneCopy, EncodedLength, plain, ofVarint, ofZigZag, ofDelta, FieldsLength, noField, oneField, ContentLength, ofMessage, ofVariant, ofNoVariant, ofBits, ofTerminal, SlotLength}
-use Rattle.sizes.specs.Laws.{RoundedTo, Plus, More, Sums, noMore, oneMore, Either}
+use Rattle.sizes.specs.Lengths.{FixedOrAny, InSpan, Length, ofPrimitive, ofSubByte, ofSemantic, ofNamed, ofBitsInline, ofWrap, ofFixedArray, ofMap, ofOk, ofErr, WrapLength, absent, present, ofElements, ofCopies, mostElements, Counted, ofCount, Several, noElement, oneElement, ElementLength, ofItem, ofEntry, OwnLength, unlimited, limitedTo, EncodedLength, plain, ofVarint, ofZigZag, ofDelta, FieldsLength, noField, oneField, ContentLength, ofMessage, ofVariant, ofNoVariant, ofBits, ofTerminal, SlotLength}
+use Rattle.sizes.specs.Laws.{RoundedTo, Plus, More, Sums, noMore, oneMore, CountOf, Either}
 
 module _ (L : Layout) (S : Schema) where
   pub primitive-is : (p n : ℕ) → (n ≡ primitiveBits p) ↔ Length L S (leaf (primitive p)) n
@@ -52,37 +54,67 @@ module _ (L : Layout) (S : Schema) where
       back n absent = inl refl
       back n (present {n = m} h) = inr (m, h, refl)
 
-  pub elements-is : (t : Tree) (n : ℕ) → (8 ≤ n) ↔ WrapLength L S anyNumber t n
+  -- ## Elements
+
+  pub item-is : (t : Tree) (n : ℕ) → Length L S t n ↔ ElementLength L S (item t) n
+  item-is t n = (ofItem, back n)
+    where
+      back : (n : ℕ) → ElementLength L S (item t) n → Length L S t n
+      back n (ofItem h) = h
+
+  pub entry-is : (t u : Tree) (n : ℕ) → Plus (Length L S t) (Length L S u) n ↔ ElementLength L S (entry t u) n
+  entry-is t u n = (λ (a, b, p, q, e). rw e (ofEntry p q), back n)
+    where
+      back : (n : ℕ) → ElementLength L S (entry t u) n → Plus (Length L S t) (Length L S u) n
+      back n (ofEntry {n = a} {m = b} p q) = (a, b, p, q, refl)
+
+  several : {e : Element} {k n : ℕ} → Sums (ElementLength L S e) k n → Several L S e k n
+  several noMore = noElement
+  several (oneMore h hs) = oneElement h (several hs)
+
+  sums : {e : Element} {k n : ℕ} → Several L S e k n → Sums (ElementLength L S e) k n
+  sums noElement = noMore
+  sums (oneElement h hs) = oneMore h (sums hs)
+
+  pub counted-is : (e : Element) (most n : ℕ) → CountOf (ElementLength L S e) most n ↔ Counted L S e most n
+  counted-is e most n = (λ c. rw (c .whole) (ofCount (c .few) (several (c .elements))), back n)
+    where
+      back : (n : ℕ) → Counted L S e most n → CountOf (ElementLength L S e) most n
+      back n (ofCount {k = k} {n = m} f h) = record { count = k; few = f; bits = m; elements = sums h; whole = refl }
+
+  pub elements-is : (t : Tree) (n : ℕ) → Counted L S (item t) mostElements n ↔ WrapLength L S anyNumber t n
   elements-is t n = (ofElements, back n)
     where
-      back : (n : ℕ) → WrapLength L S anyNumber t n → 8 ≤ n
+      back : (n : ℕ) → WrapLength L S anyNumber t n → Counted L S (item t) mostElements n
       back n (ofElements h) = h
 
-  copies : {t : Tree} {k n : ℕ} → Sums (Length L S t) k n → Copies L S t k n
-  copies noMore = noCopy
-  copies (oneMore h hs) = oneCopy h (copies hs)
-
-  sums : {t : Tree} {k n : ℕ} → Copies L S t k n → Sums (Length L S t) k n
-  sums noCopy = noMore
-  sums (oneCopy h hs) = oneMore h (sums hs)
-
-  pub exactly-is : (t : Tree) (k n : ℕ) → Sums (Length L S t) k n ↔ WrapLength L S (exactly k) t n
-  exactly-is t k n = (λ h. ofCopies (copies h), back n)
-    where
-      back : (n : ℕ) → WrapLength L S (exactly k) t n → Sums (Length L S t) k n
-      back n (ofCopies h) = sums h
-
-  pub fixed-array-is : (t : Tree) (k n : ℕ) → Sums (Length L S t) k n ↔ Length L S (fixedArray t k) n
-  fixed-array-is t k n = (λ h. ofFixedArray (copies h), back n)
-    where
-      back : (n : ℕ) → Length L S (fixedArray t k) n → Sums (Length L S t) k n
-      back n (ofFixedArray h) = sums h
-
-  pub map-is : (t u : Tree) (n : ℕ) → (8 ≤ n) ↔ Length L S (pair mapOf t u) n
+  pub map-is : (t u : Tree) (n : ℕ) → Counted L S (entry t u) mostElements n ↔ Length L S (pair mapOf t u) n
   map-is t u n = (ofMap, back n)
     where
-      back : (n : ℕ) → Length L S (pair mapOf t u) n → 8 ≤ n
+      back : (n : ℕ) → Length L S (pair mapOf t u) n → Counted L S (entry t u) mostElements n
       back n (ofMap h) = h
+
+  items : {t : Tree} {k n : ℕ} → Sums (Length L S t) k n → Several L S (item t) k n
+  items noMore = noElement
+  items (oneMore h hs) = oneElement (ofItem h) (items hs)
+
+  copies : {t : Tree} {k n : ℕ} → Several L S (item t) k n → Sums (Length L S t) k n
+  copies noElement = noMore
+  copies (oneElement (ofItem h) hs) = oneMore h (copies hs)
+
+  pub exactly-is : (t : Tree) (k n : ℕ) → Sums (Length L S t) k n ↔ WrapLength L S (exactly k) t n
+  exactly-is t k n = (λ h. ofCopies (items h), back n)
+    where
+      back : (n : ℕ) → WrapLength L S (exactly k) t n → Sums (Length L S t) k n
+      back n (ofCopies h) = copies h
+
+  pub fixed-array-is : (t : Tree) (k n : ℕ) → Sums (Length L S t) k n ↔ Length L S (fixedArray t k) n
+  fixed-array-is t k n = (λ h. ofFixedArray (items h), back n)
+    where
+      back : (n : ℕ) → Length L S (fixedArray t k) n → Sums (Length L S t) k n
+      back n (ofFixedArray h) = copies h
+
+  -- ## Other types
 
   pub result-is : (t u : Tree) (n : ℕ) → More 1 (Either (Length L S t) (Length L S u)) n ↔ Length L S (pair resultOf t u) n
   result-is t u n = (λ (m, h, e). rw e (⊎-elim (λ x. ofOk x) (λ x. ofErr x) h), back n)
@@ -121,9 +153,23 @@ module _ (L : Layout) (S : Schema) where
       back : (n : ℕ) → EncodedLength L S (delta e) t n → EncodedLength L S e t n
       back n (ofDelta h) = h
 
+  -- ## Fields
+
+  pub unlimited-is : (f : Field) (n : ℕ) → EncodedLength L S (f .encoding) (f .type) n ↔ OwnLength L S none f n
+  unlimited-is f n = (unlimited, back n)
+    where
+      back : (n : ℕ) → OwnLength L S none f n → EncodedLength L S (f .encoding) (f .type) n
+      back n (unlimited h) = h
+
+  pub limited-is : (f : Field) (e : Element) (n : ℕ) → Counted L S e (f .limit) n ↔ OwnLength L S (some e) f n
+  limited-is f e n = (limitedTo, back n)
+    where
+      back : (n : ℕ) → OwnLength L S (some e) f n → Counted L S e (f .limit) n
+      back n (limitedTo h) = h
+
   -- the lengths of a field
   abbrev pub FieldLength : Field → ℕ → Type 0
-  FieldLength f = RoundedTo (roundUp L) (EncodedLength L S (f .encoding) (f .type))
+  FieldLength f = RoundedTo (roundUp L) (OwnLength L S (limitedElement f) f)
 
   pub no-field-is : (P : ℕ → Type 0) (n : ℕ) → P n ↔ Plus P (FieldsLength L S []) n
   no-field-is P n = (

@@ -5,9 +5,11 @@ use mathlib.Core.List.{List, [], _∷_}
 use mathlib.Core.Option.{Option, none, some}
 use lib.ListN.{length, getD}
 use lib.Dec.{ltb}
-use Rattle.tree.specs.Tree.{Tree, Leaf, Wrap, leaf, wrap, fixedArray, pair, generic, primitive, subByte, semantic, named, bitsInline, qualified, optional, array, setOf, vec2, vec3, vec4, quat, mat3, mat4, mapOf, resultOf}
+use Rattle.number.specs.Shortest.{groupsOf}
+use Rattle.tree.specs.Tree.{Tree, Leaf, leaf, wrap, fixedArray, pair, generic, primitive, subByte, semantic, named, bitsInline, qualified, mapOf, resultOf}
 use Rattle.tree.specs.Encoding.{Encoding, default, varint, zigZag, delta}
 use Rattle.slot.specs.Field.{Field}
+use Rattle.sizes.specs.Elements.{Count, atMostOne, anyNumber, exactly, countOf, Element, item, entry, limitedElement}
 pub use Rattle.sizes.specs.declared.Size.{Size}
 pub use Rattle.sizes.specs.declared.Size.the-variants.{Fixed, Bounded, Open}
 pub use Rattle.sizes.specs.declared.Operation.{Operation}
@@ -130,26 +132,6 @@ widened s s′ = variable (min (smallest s) (smallest s′)) (both max (largest 
 abbrev pub raised : (bits : ℕ) → Size → Size
 raised n s = variable (n + smallest s) (both _+_ (some n) (largest s))
 
--- how many values of its child's type a kind with one child holds
-pub data Count : Type 0 where
-  -- Optional
-  atMostOne : Count
-  -- Array, Set
-  anyNumber : Count
-  -- vectors, quaternions and matrices
-  exactly : ℕ → Count
-
-abbrev pub countOf : Wrap → Count
-countOf optional = atMostOne
-countOf array = anyNumber
-countOf setOf = anyNumber
-countOf vec2 = exactly 2
-countOf vec3 = exactly 3
-countOf vec4 = exactly 4
-countOf quat = exactly 4
-countOf mat3 = exactly 9
-countOf mat4 = exactly 16
-
 unfoldable pub wrapSize : Count → (child : Worked) → Worked
 wrapSize atMostOne child = then child (λ s. limitedSum (optionalSize s))
 wrapSize anyNumber child = Sized (Open 8)
@@ -197,6 +179,29 @@ encodedSize r varint t = Sized (Bounded 8 (varintEnd t))
 encodedSize r zigZag t = Sized (Bounded 8 (zigZagEnd t))
 encodedSize r (delta e) t = encodedSize r e t
 
+-- ## Limits
+
+-- key and value: only their largest count
+abbrev pub entrySize : (key value : Size) → Size
+entrySize k v = variable 0 (both _+_ (largest k) (largest v))
+
+-- a map's key first, then its value in every case
+unfoldable pub elementSize : Resolver → Element → Worked
+elementSize r (item t) = typeSize r t
+elementSize r (entry t u) = then (typeSize r t) (λ k. then (typeSize r u) (λ v. limitedSum (entrySize k v)))
+
+-- from 8; to so many times an element's largest, if it has one, and 8 for each group of that number; never Fixed
+abbrev pub upTo : (most : ℕ) → (largest : Option ℕ) → Worked
+upTo n none = Sized (Open 8)
+upTo n (some h) = then (limitedProduct (multiplied n (Fixed h))) (λ all. limitedSum (Bounded 8 (8 * groupsOf n + smallest all)))
+
+-- where a limit bears on elements, at most so many of them
+unfoldable pub elementsSize : Resolver → (most : ℕ) → Option Element → (otherwise : Worked) → Worked
+elementsSize r n none otherwise = otherwise
+elementsSize r n (some e) otherwise = then (elementSize r e) (λ s. upTo n (largest s))
+
+-- ## Layouts
+
 -- the next multiple of 8
 abbrev pub toBytes : ℕ → ℕ
 toBytes n = (n + 7) / 8 * 8
@@ -219,7 +224,7 @@ laid Aligned s = limitedSum (rounded toBytes s)
 
 -- a field by itself
 abbrev pub fieldAlone : Resolver → Field → Worked
-fieldAlone r f = encodedSize r (f .encoding) (f .type)
+fieldAlone r f = elementsSize r (f .limit) (limitedElement f) (encodedSize r (f .encoding) (f .type))
 
 -- a field's size, as it is added
 unfoldable pub fieldSize : Layout → Resolver → Field → Worked

@@ -1,20 +1,22 @@
 -- A relation that keeps the laws holds between the lengths of a type and the ends of its size, where it does so for its parts.
-use mathlib.Core.Path.{_≡_, refl, sym, subst}
-use Prim.Native.Nat.{ℕ, _≤_}
+use mathlib.Core.Path.{_≡_, refl, sym, ap, subst, _∙_}
+use Prim.Native.Nat.{ℕ, _+_, _*_, _≤_}
 use native.Mathlib.Omega.{arith}
 use mathlib.Core.List.{List, [], _∷_, List·Memᴰ, List·Memᴰ·head, Memᴰ·append-left, Memᴰ·append-right}
 use mathlib.Core.Option.{Option, none, some}
 use mathlib.Core.Logic.{_↔_}
+use Rattle.number.specs.Shortest.{groupsOf}
 use Rattle.tree.specs.Tree.{Tree, Leaf, leaf, wrap, fixedArray, pair, generic, primitive, subByte, semantic, named, bitsInline, qualified, mapOf, resultOf}
 use Rattle.tree.specs.Encoding.{Encoding, default, varint, zigZag, delta}
 use Rattle.slot.specs.Field.{Field}
 use Rattle.image.specs.Schema.{Schema}
-use Rattle.sizes.specs.Sizes.{Layout, Packed, Aligned, toBytes, roundUp, rounded, laid, Size, Fixed, Bounded, Open, Sum, Product, Worked, Sized, smallest, largest, variable, limitedSum, then, semanticBits, fixedOrOpen, Resolver, leafSize, optionalSize, multiplied, withoutLargest, widened, raised, Count, atMostOne, anyNumber, exactly, countOf, wrapSize, typeSize, varintEnd, zigZagEnd, encodedSize, fieldSize, added, addFields, fieldsSize, mark, addVariants, unionSize}
+use Rattle.sizes.specs.Elements.{Count, atMostOne, anyNumber, exactly, countOf, Element, item, entry, limitedElement}
+use Rattle.sizes.specs.Sizes.{Layout, Packed, Aligned, toBytes, roundUp, rounded, laid, Size, Fixed, Bounded, Open, Sum, Product, Worked, Sized, smallest, largest, variable, both, limitedSum, limitedProduct, then, semanticBits, fixedOrOpen, Resolver, leafSize, optionalSize, multiplied, withoutLargest, widened, raised, wrapSize, typeSize, varintEnd, zigZagEnd, encodedSize, entrySize, elementSize, upTo, elementsSize, fieldSize, added, addFields, fieldsSize, mark, addVariants, unionSize}
 use Rattle.sizes.specs.Names.{Content, fields, variants, bits, terminal, anything, orElse, contentSize}
-use Rattle.sizes.specs.Lengths.{FixedOrAny, Length, ofQualified, ofGeneric, WrapLength, EncodedLength, FieldsLength, ContentLength, ofAnything, wrapParts, typeParts, encodedParts, fieldsParts, variantsParts, contentParts, SlotLength}
+use Rattle.sizes.specs.Lengths.{FixedOrAny, Length, ofQualified, ofGeneric, WrapLength, mostElements, Counted, ElementLength, OwnLength, EncodedLength, FieldsLength, ContentLength, ofAnything, wrapParts, typeParts, encodedParts, elementParts, ownParts, fieldParts, fieldsParts, variantsParts, contentParts, SlotLength}
 use Rattle.sizes.specs.Steps.{limited-kept, sized-inj, then-made, step-made, field-added, variant-added, fields-small, first-variant}
 use Rattle.sizes.specs.Laws.{RoundedTo, Rising, Plus, More, Sums, Either, Relation, Laws}
-use Rattle.sizes.specs.Rules.{primitive-is, sub-byte-is, semantic-is, bits-inline-is, optional-is, elements-is, exactly-is, fixed-array-is, map-is, result-is, wrap-is, plain-is, varint-is, zigzag-is, delta-is, FieldLength, no-field-is, one-field-is, fields-is, message-is, SomeVariant, no-variant-is, variants-is, none-left-is, one-variant-is, bits-is, terminal-is, varint-end, zigzag-end}
+use Rattle.sizes.specs.Rules.{primitive-is, sub-byte-is, semantic-is, bits-inline-is, optional-is, item-is, entry-is, counted-is, elements-is, exactly-is, fixed-array-is, map-is, result-is, wrap-is, plain-is, varint-is, zigzag-is, delta-is, unlimited-is, limited-is, FieldLength, no-field-is, one-field-is, fields-is, message-is, SomeVariant, no-variant-is, variants-is, none-left-is, one-variant-is, bits-is, terminal-is, varint-end, zigzag-end}
 
 -- between lengths and the ends of a size
 abbrev pub On : Relation → (ℕ → Type 0) → Size → Type 0
@@ -105,6 +107,10 @@ module _ (R : Relation) (laws : Laws R) where
     sound-leaf (bitsInline ns) parts s q = sized _ _ s q (bits-inline-is L S ns) (laws .exact _)
     sound-leaf (qualified k) parts s q = any-sized _ (λ n. ofQualified) s q
 
+    -- whatever the elements are
+    any-number : (e : Element) → On R (Counted L S e mostElements) (Open 8)
+    any-number e = laws .same _ _ _ (counted-is L S e mostElements) (laws .counted mostElements (ElementLength L S e))
+
     sound-wrap : (c : Count) (t : Tree) → HoldsFor R L S r (wrapParts c (typeParts t)) →
         (HoldsFor R L S r (typeParts t) → (s : Size) → typeSize r t ≡ Sized s → On R (Length L S t) s) →
         (s : Size) → wrapSize c (typeSize r t) ≡ Sized s → On R (WrapLength L S c t) s
@@ -113,7 +119,7 @@ module _ (R : Relation) (laws : Laws R) where
         let m = step-made Sum (typeSize r t) optionalSize s q in
         let a = laws .optional (Length L S t) _ _ (child parts (m .part) (m .given)) in
         made _ _ s (m .same) (optional-is L S t) (on-variable _ _ _ a)
-    sound-wrap anyNumber t parts child s q = sized _ _ s q (elements-is L S t) (laws .upFrom 8)
+    sound-wrap anyNumber t parts child s q = sized _ _ s q (elements-is L S t) (any-number (item t))
     sound-wrap (exactly k) t parts child s q =
         let m = step-made Product (typeSize r t) (multiplied k) s q in
         made _ _ s (m .same) (exactly-is L S t k) (on-times k (Length L S t) (m .part) (child parts (m .part) (m .given)))
@@ -126,7 +132,7 @@ module _ (R : Relation) (laws : Laws R) where
         let m = step-made Product (typeSize r t) (λ x. multiplied k (withoutLargest x)) s q in
         let a = on-dropped (Length L S t) (m .part) (sound-type t parts (m .part) (m .given)) in
         made _ _ s (m .same) (fixed-array-is L S t k) (on-times k (Length L S t) (withoutLargest (m .part)) a)
-    sound-type (pair mapOf t u) parts s q = sized _ _ s q (map-is L S t u) (laws .upFrom 8)
+    sound-type (pair mapOf t u) parts s q = sized _ _ s q (map-is L S t u) (any-number (entry t u))
     sound-type (pair resultOf t u) parts s q =
         let m = then-made (typeSize r t) (λ x. then (typeSize r u) (λ y. limitedSum (raised 1 (widened x y)))) s q in
         let m′ = step-made Sum (typeSize r u) (λ y. raised 1 (widened (m .part) y)) s (m .made) in
@@ -146,12 +152,52 @@ module _ (R : Relation) (laws : Laws R) where
     sound-encoded zigZag t parts s q = sized _ _ s q (zigzag-is L S t) (laws .span (zigZagEnd t) (zigzag-end t))
     sound-encoded (delta e) t parts s q = laws .same _ _ _ (delta-is L S e t) (sound-encoded e t parts s q)
 
-    sound-field : (f : Field) → HoldsFor R L S r (encodedParts (f .encoding) (f .type)) → (s : Size) → fieldSize L r f ≡ Sized s →
+    -- ## Elements that a limit bears on
+
+    largest-of : (h : Option ℕ) → largest (variable 0 h) ≡ h
+    largest-of (some h) = refl
+    largest-of none = refl
+
+    -- an element and its largest, from some smallest on
+    sound-element : (e : Element) → HoldsFor R L S r (elementParts e) → (s : Size) → elementSize r e ≡ Sized s →
+        (l : ℕ) × R (ElementLength L S e) l (largest s)
+    unfolding elementSize elementParts
+    sound-element (item t) parts s q = (smallest s, laws .same _ _ _ (item-is L S t) (sound-type t parts s q))
+    sound-element (entry t u) parts s q =
+        let m = then-made (typeSize r t) (λ k. then (typeSize r u) (λ v. limitedSum (entrySize k v))) s q in
+        let m′ = step-made Sum (typeSize r u) (λ v. entrySize (m .part) v) s (m .made) in
+        let a = sound-type t (λ j p. parts j (Memᴰ·append-left (typeParts u) p)) (m .part) (m .given) in
+        let b = sound-type u (λ j p. parts j (Memᴰ·append-right (typeParts t) p)) (m′ .part) (m′ .given) in
+        let h = both _+_ (largest (m .part)) (largest (m′ .part)) in
+        let same : h ≡ largest s = sym (largest-of h) ∙ ap (λ (x : Size). largest x) (m′ .same) in
+        let l = smallest (m .part) + smallest (m′ .part) in
+        let c = laws .plus (Length L S t) (Length L S u) _ _ (largest (m .part)) (largest (m′ .part)) a b in
+        (l, laws .same _ _ _ (entry-is L S t u) (subst (λ (o : Option ℕ). R (Plus (Length L S t) (Length L S u)) l o) same c))
+
+    -- at most so many of them
+    sound-count : (e : Element) (n l : ℕ) (h : Option ℕ) → R (ElementLength L S e) l h → (s : Size) → upTo n h ≡ Sized s → On R (Counted L S e n) s
+    sound-count e n l none a s q = sized _ _ s q (counted-is L S e n) (laws .counted n (ElementLength L S e))
+    sound-count e n l (some h) a s q =
+        let m = then-made (limitedProduct (multiplied n (Fixed h))) (λ all. limitedSum (Bounded 8 (8 * groupsOf n + smallest all))) s q in
+        let k = limited-kept Product (multiplied n (Fixed h)) (m .part) (m .given) .same in
+        let k′ = limited-kept Sum _ s (m .made) .same in
+        made _ _ s (ap (λ (x : Size). Bounded 8 (8 * groupsOf n + smallest x)) k ∙ k′) (counted-is L S e n) (laws .upTo n (ElementLength L S e) l h a)
+
+    sound-own : (f : Field) (o : Option Element) → HoldsFor R L S r (ownParts o (encodedParts (f .encoding) (f .type))) → (s : Size) →
+        elementsSize r (f .limit) o (encodedSize r (f .encoding) (f .type)) ≡ Sized s → On R (OwnLength L S o f) s
+    unfolding elementsSize ownParts
+    sound-own f none parts s q = laws .same _ _ _ (unlimited-is L S f) (sound-encoded (f .encoding) (f .type) parts s q)
+    sound-own f (some e) parts s q =
+        let m = then-made (elementSize r e) (λ x. upTo (f .limit) (largest x)) s q in
+        let (l, a) = sound-element e parts (m .part) (m .given) in
+        laws .same _ _ _ (limited-is L S f e) (sound-count e (f .limit) l (largest (m .part)) a s (m .made))
+
+    sound-field : (f : Field) → HoldsFor R L S r (fieldParts f) → (s : Size) → fieldSize L r f ≡ Sized s →
         On R (FieldLength L S f) s
     unfolding fieldSize
     sound-field f parts s q =
-        let m = then-made (encodedSize r (f .encoding) (f .type)) (laid L) s q in
-        on-laid L (EncodedLength L S (f .encoding) (f .type)) (m .part) s (sound-encoded (f .encoding) (f .type) parts (m .part) (m .given)) (m .made)
+        let m = then-made (elementsSize r (f .limit) (limitedElement f) (encodedSize r (f .encoding) (f .type))) (laid L) s q in
+        on-laid L (OwnLength L S (limitedElement f) f) (m .part) s (sound-own f (limitedElement f) parts (m .part) (m .given)) (m .made)
 
     -- P is what the fields so far may come to
     sound-add : (fs : List Field) → HoldsFor R L S r (fieldsParts fs) → (P : ℕ → Type 0) (total s : Size) → On R P total →
@@ -160,7 +206,7 @@ module _ (R : Relation) (laws : Laws R) where
     sound-add [] parts P total s a q = sized _ total s q (no-field-is L S P) a
     sound-add (f ∷ fs) parts P total s a q =
         let m = field-added L r total f fs s q in
-        let mine = encodedParts (f .encoding) (f .type) in
+        let mine = fieldParts f in
         let b = sound-field f (λ j p. parts j (Memᴰ·append-left (fieldsParts fs) p)) (m .size) (m .worked) in
         let c = on-added P (FieldLength L S f) total (m .size) a b in
         laws .same _ _ _ (one-field-is L S P f fs)

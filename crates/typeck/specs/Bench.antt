@@ -6,7 +6,8 @@ use Rattle.tree.specs.Tree.{wrap, fixedArray, pair, optional, vec3, resultOf}
 use Rattle.image.specs.Schema.{Schema, slotOf}
 use Rattle.sizes.specs.Widths.{highest, topOf, digits, bitLength, ordinalBits, enumBits, bytesTo, flagsBytes, has, enumBitsAt, flagsBytesAt}
 use Rattle.sizes.specs.declared.Layout.the-variants.{Packed}
-use Rattle.sizes.specs.Sizes.{limited, then, primitiveBits, semanticBits, leafSize, wrapSize, typeSize, varintEnd, zigZagEnd, encodedSize, fieldSize, addFields, addVariants, unionSize}
+use Rattle.sizes.specs.Elements.{limitedElement}
+use Rattle.sizes.specs.Sizes.{limited, then, primitiveBits, semanticBits, leafSize, wrapSize, typeSize, varintEnd, zigZagEnd, encodedSize, elementsSize, fieldSize, addFields, addVariants, unionSize}
 use Rattle.sizes.specs.Names.{contentIn, contentOf, contentSize, nameRule, nameWithin, nameSize}
 use Rattle.sizes.specs.Check.{brought, bodySize, ownSize, store, storing, turn, onward, turns, checkSizes, row, slotRow, rowsFrom, tableOf}
 use Rattle.sizes.specs.Examples.{all, of, each, a-union, an-enum, some-flags, bool, u8, u32, slot, Answer, table, answerOf}
@@ -49,5 +50,5 @@ starred =
     ∷ []
 
 pub starred-hold : map (λ l. checked (l .of)) starred ≡ starred
-unfolding checkSizes turns turn onward ownSize bodySize storing store brought nameSize nameWithin nameRule contentSize contentOf contentIn slotOf typeSize leafSize wrapSize then limited primitiveBits semanticBits varintEnd zigZagEnd encodedSize fieldSize addFields addVariants unionSize tableOf rowsFrom slotRow enumBitsAt flagsBytesAt enumBits flagsBytes ordinalBits topOf bitLength digits highest bytesTo has rowsOf findingsOf endlessOf endlessIn start walkName walkSlot walkVariants walkFields walkType walkLeaf left entered counted conformanceOf
+unfolding checkSizes turns turn onward ownSize bodySize storing store brought nameSize nameWithin nameRule contentSize contentOf contentIn slotOf typeSize leafSize wrapSize then limited primitiveBits semanticBits varintEnd zigZagEnd encodedSize limitedElement elementsSize fieldSize addFields addVariants unionSize tableOf rowsFrom slotRow enumBitsAt flagsBytesAt enumBits flagsBytes ordinalBits topOf bitLength digits highest bytesTo has rowsOf findingsOf endlessOf endlessIn start walkName walkSlot walkVariants walkFields walkType walkLeaf left entered counted conformanceOf
 starred-hold = refl

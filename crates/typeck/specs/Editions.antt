@@ -1,7 +1,7 @@
--- What edition two adds, and what answers know of it. Two images whose schemas differ in limits, and in ordinals or bits that keep
--- each highest, are answered alike, by every entry, whatever their editions. So an image of edition two is answered as the one whose
--- retired ones are live, and as the one of edition one that has them live and no limits. Of sizes this holds of limits until they
--- look at them; of findings it stays.
+-- What edition two adds, and what answers know of it. Two images whose schemas differ in limits that bear on no elements, and in
+-- ordinals or bits that keep each highest, are answered alike, by every entry, whatever their editions. So an image of edition two
+-- is answered as the one whose retired ones are live; and, where none of its limits bears on elements, as the one of edition one that
+-- has them live and no limits. Findings know nothing of limits.
 use Prim.Native.Nat.{ℕ, _*_}
 use mathlib.Core.Path.{_≡_, refl, sym, ap, ap₂, _∙_}
 use mathlib.Core.List.{List}
@@ -25,7 +25,7 @@ use Rattle.sizes.specs.Widths.{highest, topOf}
 use Rattle.sizes.specs.Names.{State}
 use Rattle.sizes.specs.Check.{Checked, isThere, storedSlot, checkSizes}
 use Rattle.sizes.specs.Check as check
-use Rattle.sizes.specs.Changed.{top-moved, top-live, KeepsTops, brings-changed, sizes-changed, table-changed}
+use Rattle.sizes.specs.Changed.{top-live, Unlimited, Keeps, brings-changed, sizes-changed, table-changed, moved-keeps, bare-keeps}
 use Rattle.turns.specs.Sizing.{layoutOf, gated, verdict, workedIn, sizingIn, sizingOf, rowsIn, onSized, tableBy, sizesOf}
 use Rattle.turns.specs.declared.Entry.{Entry}
 use Rattle.turns.specs.declared.Entry.the-variants.{Ordinary, HeadBoard}
@@ -38,13 +38,13 @@ use Rattle.typeck.specs.declared.Verdict.{Verdict}
 
 -- ## A schema that is changed
 
-module _ (c : Change) (keeps : KeepsTops c) (S : Schema) where
+module _ (c : Change) (S : Schema) (keeps : Keeps c S) where
   slots-changed : length (changed c S .slots) ≡ length (S .slots)
   unfolding changed
   slots-changed = length-map (S .slots) (slotChanged c)
 
   rows-changed : (k : Checked) → rowsIn (changed c S) k ≡ rowsIn S k
-  rows-changed (check.accepted st) = table-changed c keeps S st
+  rows-changed (check.accepted st) = table-changed c S keeps st
   rows-changed (check.refused o i) = refl
 
   stored-changed : storedSlot (changed c S) ≡ storedSlot S
@@ -59,7 +59,7 @@ module _ (c : Change) (keeps : KeepsTops c) (S : Schema) where
   worked-changed : (L : Layout) (p : ℕ) → workedIn L p (changed c S) ≡ workedIn L p S
   unfolding workedIn
   worked-changed L p =
-      ap₂ (λ (n : ℕ) (k : Checked). cond (ltb p (3 * n)) (Sizing.Refused 10 0) (verdict k)) slots-changed (sizes-changed c keeps S L)
+      ap₂ (λ (n : ℕ) (k : Checked). cond (ltb p (3 * n)) (Sizing.Refused 10 0) (verdict k)) slots-changed (sizes-changed c S keeps L)
 
   -- the sizes of an image that is read
   sizing-changed : (E : Entry) (p : ℕ) (f g : Frame) → sizingIn E p (changed c S) (Reading.Accepted f) ≡ sizingIn E p S (Reading.Accepted g)
@@ -69,7 +69,7 @@ module _ (c : Change) (keeps : KeepsTops c) (S : Schema) where
 
   table-by-changed : (L : Layout) (p : ℕ) (z : Sizing) → tableBy L p (changed c S) z ≡ tableBy L p S z
   table-by-changed L p z =
-      ap (λ (k : Checked). fitted p (onSized z (rowsIn (changed c S) k))) (sizes-changed c keeps S L)
+      ap (λ (k : Checked). fitted p (onSized z (rowsIn (changed c S) k))) (sizes-changed c S keeps L)
       ∙ ap (λ (l : List ℕ). fitted p (onSized z l)) (rows-changed (checkSizes L S))
 
   verdict-changed : (q : ℕ) (z : Sizing) → verdictIn q (changed c S) z ≡ verdictIn q S z
@@ -89,21 +89,21 @@ pub record Alike (E : Entry) (p q : ℕ) (ed : Edition) (s : List ℕ) (ed′ : 
 -- both are read
 module _ (E : Entry) (p q : ℕ) (ed ed′ : Edition) (s s′ : List ℕ) (f f′ : Frame) (reads : readingOf ed s ≡ Reading.Accepted f) (reads′ : readingOf ed′ s′ ≡ Reading.Accepted f′) where
   -- and the schema of the first is that of the second, changed
-  module _ (c : Change) (keeps : KeepsTops c) (same : schemaOf ed s ≡ changed c (schemaOf ed′ s′)) where
+  module _ (c : Change) (keeps : Keeps c (schemaOf ed′ s′)) (same : schemaOf ed s ≡ changed c (schemaOf ed′ s′)) where
     abbrev S : Schema
     S = schemaOf ed′ s′
 
     sizing-alike : sizingOf E ed p s ≡ sizingOf E ed′ p s′
     unfolding sizingOf
-    sizing-alike = ap₂ (sizingIn E p) same reads ∙ sizing-changed c keeps S E p f f′ ∙ ap (sizingIn E p S) (sym reads′)
+    sizing-alike = ap₂ (sizingIn E p) same reads ∙ sizing-changed c S keeps E p f f′ ∙ ap (sizingIn E p S) (sym reads′)
 
     sizes-alike : sizesOf E ed p s ≡ sizesOf E ed′ p s′
     unfolding sizesOf
-    sizes-alike = ap₂ (tableBy (layoutOf E) p) same sizing-alike ∙ table-by-changed c keeps S (layoutOf E) p (sizingOf E ed′ p s′)
+    sizes-alike = ap₂ (tableBy (layoutOf E) p) same sizing-alike ∙ table-by-changed c S keeps (layoutOf E) p (sizingOf E ed′ p s′)
 
     answer-alike : verdictOf E ed p q s ≡ verdictOf E ed′ p q s′
     unfolding verdictOf
-    answer-alike = ap₂ (verdictIn q) same sizing-alike ∙ verdict-changed c keeps S q (sizingOf E ed′ p s′)
+    answer-alike = ap₂ (verdictIn q) same sizing-alike ∙ verdict-changed c S keeps q (sizingOf E ed′ p s′)
 
     pub answered-alike : Alike E p q ed s ed′ s′
     unfolding sizeTable findingTable
@@ -117,11 +117,11 @@ module _ (E : Entry) (p q : ℕ) (ed ed′ : Edition) (s s′ : List ℕ) (f f�
 
   -- the retired ones of the second are live in the first
   pub answered-as-moved : schemaOf ed s ≡ changed moved (schemaOf ed′ s′) → Alike E p q ed s ed′ s′
-  answered-as-moved = answered-alike moved top-moved
+  answered-as-moved = answered-alike moved (moved-keeps (schemaOf ed′ s′))
 
-  -- and the first has no limits, so that it may be of edition one
-  pub answered-as-one : schemaOf ed s ≡ changed movedBare (schemaOf ed′ s′) → Alike E p q ed s ed′ s′
-  answered-as-one = answered-alike movedBare top-moved
+  -- and the first has no limits, so that it may be of edition one, where those of the second bear on no elements
+  pub answered-as-one : Unlimited (schemaOf ed′ s′) → schemaOf ed s ≡ changed movedBare (schemaOf ed′ s′) → Alike E p q ed s ed′ s′
+  answered-as-one free = answered-alike movedBare (bare-keeps (schemaOf ed′ s′) free)
 
 -- ## Edition one
 

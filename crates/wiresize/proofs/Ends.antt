@@ -19,7 +19,7 @@ use Rattle.reader.specs.Reading.{readingOf, schemaOf}
 use Rattle.reader.specs.Promise.{Promise}
 use Rattle.reader.specs.declared.Reading.{Reading}
 use Rattle.reader.proofs.Telling.{exactly}
-use Rattle.sizes.specs.Sizes.{countOf}
+use Rattle.sizes.specs.Elements.{countOf}
 use Rattle.sizes.specs.declared.Layout.{Layout}
 use Rattle.sizes.specs.Names.{contentIn, contentOf, NamesObey}
 use Rattle.sizes.specs.Lengths.{leafParts, wrapParts, typeParts, terminalParts, terminalsOf, Reaches, atOnce, byWayOf, NewtypesEnd}

@@ -25,7 +25,7 @@ use Rattle.total.specs.declared.Step.{Step}
 use Rattle.total.proofs.Totals.{size-back, stepped, stopped}
 use Rattle.wiresize.specs.Rows.{RowsHold}
 use Rattle.wiresize.specs.Asked.{Walks, resolver}
-use Rattle.wiresize.specs.declared.Walked.{Walked}
+use Rattle.settling.specs.declared.Walked.{Walked}
 
 -- a run of nothing
 pub none-left : {A : Type 0} (g : Grammar A) (s : List ℕ) (left here : ℕ) → left ≤ 0 → (xs : List A) (e : ℕ) → read (many left g) s here ≡ done xs e

@@ -16,13 +16,13 @@ use Rattle.sizes.specs.declared.Size.{Size}
 use Rattle.sizes.specs.declared.Worked.the-variants.{Sized}
 use Rattle.sizes.specs.Sizes.{Resolver, typeSize}
 use Rattle.view.proofs.Places.{at-place}
-use Rattle.wiresize.specs.declared.Walked.{Walked}
-use Rattle.wiresize.specs.Steps.{NameIn, OneIn, SidesIn, Closes}
+use Rattle.settling.specs.declared.Walked.{Walked}
+use Rattle.settling.specs.Steps.{NameIn, OneIn, SidesIn, Closes}
 use Rattle.wiresize.specs.Asked.{Asked, Ready}
-use Rattle.wiresize.proofs.Heads.{type-parts}
+use Rattle.settling.proofs.Heads.{type-parts}
 use Rattle.wiresize.proofs.Onward.{behind-head}
 use Rattle.wiresize.proofs.Measure.{typeLeft, child-in-wrap, element-in-array}
-use Rattle.wiresize.proofs.Typing.{below-at, leaf-named, pair-result, wrap-sized, array-sized}
+use Rattle.settling.proofs.Typing.{below-at, leaf-named, pair-result, wrap-sized, array-sized}
 
 pub data OneChild (names : ℕ) (s : List ℕ) (t : Tree) (end kind body : ℕ) : Type 0 where
   wrapped : (w : Wrap) (u : Tree) → t ≡ wrap w u → wrapKind w ≡ kind → (kind ≡ 5 → ⊥) → (kind ≡ 7 → ⊥)

@@ -1,14 +1,9 @@
-pub mod Ended
-pub mod Encodings
-pub mod Heads
 pub mod Tables
 pub mod Onward
 pub mod Ends
 pub mod Naming
 pub mod Measure
-pub mod Typing
 pub mod Insides
 pub mod Fields
 pub mod Variants
 pub mod Own
-pub mod Settling

@@ -11,7 +11,7 @@ use Rattle.slot.specs.Field.{typeAt}
 use Rattle.image.specs.Schema.{Schema}
 use Rattle.image.specs.declared.Frame.{Frame}
 use Rattle.reader.specs.Reading.{schemaOf}
-use Rattle.sizes.specs.Sizes.{countOf}
+use Rattle.sizes.specs.Elements.{countOf}
 use Rattle.sizes.specs.Names.{terminal, contentOf, Working, inserted}
 use Rattle.sizes.specs.Lengths.{wrapParts, typeParts}
 use Rattle.sizes.specs.Rank.{unmarkedBelow, unmarked-fresh, above, above-append, terminalRank, typeRank, type-rank-name, type-rank-bound, terminal-rank-bound, terminal-rank-is}
@@ -32,6 +32,12 @@ typeLeft s f at w = (unmarked w * 1024 + typeRank (schemaOf (f .edition) s) (tre
 unfoldable pub nameLeft : Schema → (id : ℕ) → List Bool → ℕ
 nameLeft S i w = (unmarked w * 1024 + terminalRank S i) * 131072 + 131071
 
+unfoldable pub elementLeft : List Bool → ℕ
+elementLeft w = (unmarked w * 1024 + 800) * 131072
+
+unfoldable pub plainLeft : List Bool → ℕ
+plainLeft w = (unmarked w * 1024 + 850) * 131072
+
 unfoldable pub fieldLeft : List Bool → ℕ
 fieldLeft w = (unmarked w * 1024 + 900) * 131072
 
@@ -49,10 +55,27 @@ module _ (s starts : List ℕ) (f : Frame) (rows : List ℕ) (w : List Bool) (re
   name-small : (i : ℕ) → terminalRank (schemaOf (f .edition) s) i ≤ 513
   name-small i = let b = terminal-rank-bound (schemaOf (f .edition) s) i in let c = ready .promise .count in let d = ready .promise .few in omega arith
 
-  pub type-in-field : (at : ℕ) → typeLeft s f at w < fieldLeft w
-  unfolding typeLeft fieldLeft
-  type-in-field at =
+  pub type-in-element : (at : ℕ) → typeLeft s f at w < elementLeft w
+  unfolding typeLeft elementLeft
+  type-in-element at =
       let a = rank-small (treeOr (read (typeAt (f .names)) s at)) in let b = ready .promise .small in omega arith
+
+  pub element-in-plain : elementLeft w < plainLeft w
+  unfolding elementLeft plainLeft
+  element-in-plain = omega arith
+
+  pub type-in-plain : (at : ℕ) → typeLeft s f at w < plainLeft w
+  unfolding typeLeft plainLeft
+  type-in-plain at =
+      let a = rank-small (treeOr (read (typeAt (f .names)) s at)) in let b = ready .promise .small in omega arith
+
+  pub name-in-field : (i : ℕ) → nameLeft (schemaOf (f .edition) s) i w < fieldLeft w
+  unfolding nameLeft fieldLeft
+  name-in-field i = let a = name-small i in omega arith
+
+  pub plain-in-field : plainLeft w < fieldLeft w
+  unfolding plainLeft fieldLeft
+  plain-in-field = omega arith
 
   -- a slot that is marked now
   pub body-in-name : (i : ℕ) → i < f .slots → getD w i false ≡ false → bodyLeft (set w i true) < nameLeft (schemaOf (f .edition) s) i w

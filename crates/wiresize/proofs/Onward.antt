@@ -13,7 +13,7 @@ use Rattle.tree.specs.declared.Sort.the-variants.{Resolved}
 use Rattle.tree.specs.declared.Head.{Head}
 use Rattle.slot.specs.Field.{typeAt}
 use Rattle.view.proofs.Onward.{goes-on}
-use Rattle.wiresize.proofs.Heads.{level}
+use Rattle.settling.proofs.Heads.{level}
 
 -- the position after a head
 abbrev pub placeIn : Head → ℕ

@@ -16,7 +16,7 @@ use Rattle.sizes.specs.Names.{contentIn, contentOf, State, Working, nothing, in
 use Rattle.sizes.specs.Check.{bodySize, ownSize}
 use Rattle.sizes.specs.Fuel.{inserted-is}
 use Rattle.wiresize.specs.Asked.{marked, resolver, turnOf}
-use Rattle.wiresize.specs.Steps.{turnedAs}
+use Rattle.wiresize.specs.Asked.{turnedAs}
 use Rattle.wiresize.specs.declared.Turned.{Turned}
 
 abbrev pub ownMark : ℕ → List Bool

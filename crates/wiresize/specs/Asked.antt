@@ -14,10 +14,12 @@ use Rattle.sizes.specs.declared.Layout.{Layout}
 use Rattle.sizes.specs.declared.Size.{Size}
 use Rattle.sizes.specs.declared.Worked.{Worked}
 use Rattle.sizes.specs.declared.Worked.the-variants.{Sized, Over}
-use Rattle.sizes.specs.Sizes.{Resolver}
+use Rattle.sizes.specs.Sizes.{largest, then, Resolver, elementSize, upTo}
 use Rattle.sizes.specs.Names.{State, Working, nameSize}
 use Rattle.sizes.specs.Check.{ownSize}
-use Rattle.wiresize.specs.declared.Walked.{Walked}
+use Rattle.settling.specs.Steps.{elementAt}
+use Rattle.settling.specs.declared.Limited.{Limited}
+use Rattle.settling.specs.declared.Walked.{Walked}
 use Rattle.wiresize.specs.declared.Turned.{Turned}
 use Rattle.wiresize.specs.Rows.{RowsHold}
 
@@ -51,6 +53,11 @@ pub record Walks (L : Layout) {A : Type 0} (g : Grammar A) (size : Resolver → 
   pub next : (x : A) (end : ℕ) → read g s at ≡ done x end → (z : Size) → r .worked ≡ Sized z → r .next ≡ end
   pub works : WorksOut L g size s f rows w at (r .worked)
 
+-- so many elements at most, and the position after the field
+pub record Counts (L : Layout) (s : List ℕ) (f : Frame) (rows : List ℕ) (w : List Bool) (l : Limited) (r : Walked) : Type 0 where
+  pub next : r .next ≡ l .next
+  pub works : WorksOut L (elementAt (f .names) (l .kind)) (λ R e. then (elementSize R e) (λ z. upTo (l .most) (largest z))) s f rows w (l .body) (r .worked)
+
 pub record Names (L : Layout) (S : Schema) (rows : List ℕ) (w : List Bool) (id : ℕ) (r : Worked) : Type 0 where
   pub worked : (st : State) → RowsHold S st rows → r ≡ resolver L S st w id
 
@@ -67,3 +74,8 @@ turnOf Turned.Other = none
 
 pub record Owns (L : Layout) (S : Schema) (rows : List ℕ) (slot : ℕ) (r : Turned) : Type 0 where
   pub turn : (st : State) → RowsHold S st rows → turnOf r ≡ ownSize L S st slot
+
+-- what a turn answers of a size that was worked out
+abbrev pub turnedAs : Worked → Turned
+turnedAs (Sized s) = Turned.Sized s
+turnedAs (Over o) = Turned.Over o

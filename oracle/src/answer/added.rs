@@ -57,7 +57,7 @@ const OTHERWISE: usize = 3;
 /// Images of a run for each of which a count has to be one more; other families
 /// than the one for it give some that both editions answer otherwise.
 const IMAGES_EACH: u64 = 1_000;
-const IMAGES_EACH_OTHERWISE: u64 = 400;
+const IMAGES_EACH_OTHERWISE: u64 = 160;
 
 #[derive(Debug, Clone, Default, PartialEq, Eq)]
 pub struct AddedCounts {

@@ -98,7 +98,7 @@ impl AlignedCounts {
         };
         match (here, there) {
             (Answer::Accepted { sizes, .. }, Answer::Accepted { sizes: packed, .. }) => {
-                self.count_rounding(&aligned.rounding);
+                self.count_rounding(&aligned.notes.rounding);
                 add_there(&mut self.accepted, &accepted(schema, &sizes, &packed));
             }
             (Answer::Accepted { .. }, Answer::Refused { .. }) => {
@@ -110,7 +110,7 @@ impl AlignedCounts {
             }
             (Answer::Refused { number, place }, there) => {
                 add_there(&mut self.limit, &passed(number, place, &there));
-                add_there(&mut self.passing, &aligned.rounding.passing);
+                add_there(&mut self.passing, &aligned.notes.rounding.passing);
             }
         }
     }

@@ -7,7 +7,7 @@ use super::steps::TooLong;
 #[derive(Debug, Clone, Copy, PartialEq, Eq)]
 pub enum Operation {
     Sum,
-    /// Of a fixed array, vector, quaternion or matrix.
+    /// Of a fixed array, vector, quaternion or matrix, or of a limit.
     Product,
 }
 
@@ -30,16 +30,19 @@ pub enum Part {
     Optional,
     FixedArray,
     Vector,
+    /// A field whose elements have a limit.
+    Limited,
 }
 
 impl Part {
-    pub const ALL: [Part; 6] = [
+    pub const ALL: [Part; 7] = [
         Part::Message,
         Part::Union,
         Part::Result,
         Part::Optional,
         Part::FixedArray,
         Part::Vector,
+        Part::Limited,
     ];
 
     pub fn name(self) -> &'static str {
@@ -50,8 +53,24 @@ impl Part {
             Part::Optional => "Optional",
             Part::FixedArray => "fixed array",
             Part::Vector => "vector",
+            Part::Limited => "limited field",
         }
     }
+}
+
+/// Steps of a field whose elements have a limit.
+#[derive(Debug, Clone, Copy, PartialEq, Eq)]
+pub enum Step {
+    /// Inside an element, or a key, or a value beside a key that has a largest.
+    Inside,
+    /// Inside a value whose key has no largest.
+    Value,
+    /// The largest key and the largest value.
+    Entry,
+    /// The limit times the largest.
+    Product,
+    /// The groups of the count, and that product.
+    Sum,
 }
 
 /// The operation of the first step, and the parts around it, at any depth and
@@ -60,6 +79,8 @@ impl Part {
 pub struct PassedLimit {
     pub operation: Operation,
     pub inside: [bool; Part::ALL.len()],
+    /// What it is to the innermost field around it that has limited elements.
+    pub step: Option<Step>,
 }
 
 /// Why the size of a part could not be worked out.
@@ -78,6 +99,14 @@ impl Halt {
         }
         self
     }
+
+    /// The same, told by a field whose elements have a limit.
+    pub fn at(mut self, step: Step) -> Self {
+        if let Halt::Limit(passed) = &mut self {
+            passed.step.get_or_insert(step);
+        }
+        self
+    }
 }
 
 impl From<Operation> for Halt {
@@ -85,6 +114,7 @@ impl From<Operation> for Halt {
         Halt::Limit(PassedLimit {
             operation,
             inside: [false; Part::ALL.len()],
+            step: None,
         })
     }
 }

@@ -2,23 +2,27 @@
 //!
 //! Refusals 1 to 9 come from the importer, 11 and 14 from sizes worked out here
 //! in 128 bits, sizes and findings from the upstream check. It knows the packed
-//! layout alone: the sizes of the head board are those worked out here, once
-//! they are the upstream ones where nothing is rounded. Nor does it know retired
-//! ones: for it they are moved behind the live ones.
+//! layout alone, and no limits: the sizes of the head board and those with limits
+//! are worked out here, once they are the upstream ones where nothing is rounded
+//! and limits are left out. Nor does it know retired ones: for it they are moved
+//! behind the live ones.
 
 mod added;
 mod aligned;
+mod bearing;
 mod brought;
 mod counts;
+pub(crate) mod elements;
 mod fields;
 mod findings;
 mod kinds;
 mod limit;
+mod limited;
 pub(crate) mod moved;
-mod parts;
+pub(crate) mod parts;
 mod retired;
 mod rounding;
-mod sizes;
+pub(crate) mod sizes;
 mod steps;
 mod whole;
 pub(crate) mod widths;
@@ -29,12 +33,15 @@ use crate::format::Entry;
 use crate::import::Refusal;
 pub use added::AddedCounts;
 pub use aligned::AlignedCounts;
+pub use bearing::Bearing;
 pub use brought::{bringing, brought};
 pub use fields::{each_wanted, Wanted};
 pub use kinds::FieldCounts;
-pub use limit::{Operation, Part, PassedLimit};
+pub use limit::{Operation, Part, PassedLimit, Step};
+pub use limited::LimitedCounts;
 pub use parts::{expression_kind, type_kind, type_parts};
 pub use retired::RetiredCounts;
+pub use sizes::Notes;
 pub use steps::{TooLong, PATIENT_STEP_LIMIT};
 pub use whole::{Classes, Unions, Whole};
 

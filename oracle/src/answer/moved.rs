@@ -1,9 +1,12 @@
-//! Retired ones moved behind the live ones, or taken out. The upstream check
-//! looks at live ones alone, so an image of edition two is compared with the
-//! Rust check of the image whose retired ones are moved.
+//! Retired ones moved behind the live ones, or taken out, and limits taken out.
+//! The upstream check looks at live ones alone and at no limits, so an image of
+//! edition two is compared with the Rust check of the image whose retired ones
+//! are moved, and its sizes without limits with those there.
 
+use super::elements::limited;
 use crate::ir::{
-    CompiledSchema, EnumVariantDef, FlagsBitDef, ResolvedAnnotations, TombstoneDef, TypeDef, TypeId,
+    CompiledSchema, EnumVariantDef, FieldDef, FlagsBitDef, ResolvedAnnotations, TombstoneDef,
+    TypeDef, TypeId,
 };
 
 /// Moves the retired ones of every slot behind its live ones.
@@ -29,6 +32,33 @@ pub fn take_out_retired(schema: &mut CompiledSchema) {
         TypeDef::Flags(flags) => flags.tombstones.clear(),
         _ => {}
     });
+}
+
+/// Takes the limits of all fields out.
+pub fn take_out_limits(schema: &mut CompiledSchema) {
+    let clear = |fields: &mut [FieldDef]| {
+        let fields = fields.iter_mut();
+        fields.for_each(|field| field.encoding.limit = None);
+    };
+    each_definition(schema, &mut |definition| match definition {
+        TypeDef::Message(message) => clear(&mut message.fields),
+        TypeDef::Union(un) => {
+            let variants = un.variants.iter_mut();
+            variants.for_each(|variant| clear(&mut variant.fields));
+        }
+        _ => {}
+    });
+}
+
+/// Whether a limit bears on the elements of a field.
+pub fn has_limited(schema: &CompiledSchema) -> bool {
+    let bears = |fields: &[FieldDef]| fields.iter().any(|field| limited(field).is_some());
+    let mut definitions = schema.registry.iter();
+    definitions.any(|(_, definition)| match definition {
+        TypeDef::Message(message) => bears(&message.fields),
+        TypeDef::Union(un) => un.variants.iter().any(|variant| bears(&variant.fields)),
+        _ => false,
+    })
 }
 
 fn each_definition(schema: &mut CompiledSchema, change: &mut dyn FnMut(&mut TypeDef)) {

@@ -7,13 +7,11 @@ use std::fmt;
 
 use super::counts::{add_row, add_there, named};
 use super::moved::take_out_retired;
-use super::rounding::Rounding;
-use super::sizes::size_table;
-use super::steps::{Steps, STEP_LIMIT};
+use super::sizes::table_of;
 use super::widths::{enum_bits, flags_bytes, highest_bit, highest_ordinal};
 use super::{Answer, Whole};
 use crate::ast::EnumBacking;
-use crate::format::{Entry, Layout};
+use crate::format::Entry;
 use crate::import::read;
 use crate::ir::{CompiledSchema, EnumDef, FlagsDef, TypeDef};
 use crate::lengths::rules::declared;
@@ -46,7 +44,7 @@ const BORDERS: [u32; 6] = [7, 8, 15, 16, 31, 32];
 const UNDECLARED: [&str; 2] = ["enum", "flags"];
 
 /// Declared slots whose row is another than by live ones alone.
-const ROWS: [&str; 2] = ["message", "union"];
+pub const ROWS: [&str; 2] = ["message", "union"];
 
 /// Refusals of images that are accepted by live ones alone.
 const REFUSED: [&str; 2] = ["11", "14"];
@@ -78,7 +76,7 @@ impl RetiredCounts {
         let mut alone = schema.clone();
         take_out_retired(&mut alone);
         let table = match is_wider(schema, &alone) {
-            true => table(&alone, entry.layout),
+            true => table_of(&alone, entry.layout).ok(),
             false => None,
         };
         match (answer, table) {
@@ -264,15 +262,8 @@ fn width(definition: Option<&TypeDef>) -> u64 {
     }
 }
 
-/// The size table of a schema, if it is accepted.
-fn table(schema: &CompiledSchema, layout: Layout) -> Option<Vec<u64>> {
-    let mut steps = Steps::new(schema, STEP_LIMIT);
-    let nothing = &mut Rounding::default();
-    size_table(schema, layout, &mut steps, nothing).ok()
-}
-
 /// Whose rows are others, in the order of `ROWS`.
-fn other_rows(schema: &CompiledSchema, sizes: &[u64], alone: &[u64]) -> [bool; ROWS.len()] {
+pub fn other_rows(schema: &CompiledSchema, sizes: &[u64], alone: &[u64]) -> [bool; ROWS.len()] {
     let mut there = [false; ROWS.len()];
     for (id, definition) in schema.registry.iter() {
         let at = 3 * id.index() as usize;

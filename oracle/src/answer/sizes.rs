@@ -1,12 +1,14 @@
 //! Sizes by the rules of document 01, in 128 bits, to see what passes
-//! 2^63 - 1, and by document 02 which step is the first that does, and in
-//! either layout. Written apart from the upstream check, which adds in 64 bits
-//! and knows one layout.
+//! 2^63 - 1, and by document 02 which step is the first that does, in either
+//! layout, and with limits of elements. Written apart from the upstream check,
+//! which adds in 64 bits, knows one layout and no limits.
 
+use super::bearing::Bearing;
 use super::brought::brought;
-use super::limit::{Halt, Operation, Part, PassedLimit, Worked};
+use super::elements::{groups, innermost, limited, Element};
+use super::limit::{Halt, Operation, Part, PassedLimit, Step, Worked};
 use super::rounding::{Rounding, BYTE};
-use super::steps::Steps;
+use super::steps::{Steps, STEP_LIMIT};
 use super::widths::{enum_bits, flags_bytes, primitive_bits};
 use crate::ast::{PrimitiveType, SemanticType};
 use crate::format::{Layout, SIZE_LIMIT};
@@ -72,14 +74,29 @@ fn whole_bytes(bits: u128) -> Worked<u128> {
     within(bits.next_multiple_of(BYTE as u128), Operation::Sum)
 }
 
+/// What was met while sizes were worked out.
+#[derive(Debug, Clone, Copy, Default, PartialEq, Eq)]
+pub struct Notes {
+    /// What was rounded; nothing in the packed layout.
+    pub rounding: Rounding,
+    /// What limits bear on; nothing in edition one.
+    pub limits: Bearing,
+}
+
+/// The size table of a schema, or why there is none, in the usual number of steps.
+pub fn table_of(schema: &CompiledSchema, layout: Layout) -> Result<Vec<u64>, Stop> {
+    let mut steps = Steps::new(schema, STEP_LIMIT);
+    size_table(schema, layout, &mut steps, &mut Notes::default())
+}
+
 /// Three numbers a slot, as they stand after the check.
 pub fn size_table(
     schema: &CompiledSchema,
     layout: Layout,
     steps: &mut Steps,
-    rounding: &mut Rounding,
+    notes: &mut Notes,
 ) -> Result<Vec<u64>, Stop> {
-    let mut sizes = Sizes::new(schema, layout, steps, rounding);
+    let mut sizes = Sizes::new(schema, layout, steps, notes);
     for &id in &schema.declarations {
         let worked = match schema.registry.get(id) {
             Some(TypeDef::Message(_) | TypeDef::Union(_)) => sizes.work(id),
@@ -104,7 +121,7 @@ struct Sizes<'a> {
     widths: Vec<u64>,
     working: Vec<bool>,
     steps: &'a mut Steps,
-    rounding: &'a mut Rounding,
+    notes: &'a mut Notes,
 }
 
 impl<'a> Sizes<'a> {
@@ -112,7 +129,7 @@ impl<'a> Sizes<'a> {
         schema: &'a CompiledSchema,
         layout: Layout,
         steps: &'a mut Steps,
-        rounding: &'a mut Rounding,
+        notes: &'a mut Notes,
     ) -> Self {
         let slots = schema.registry.len();
         let mut declared = vec![false; slots];
@@ -137,7 +154,7 @@ impl<'a> Sizes<'a> {
             widths: widths.collect(),
             working: vec![false; slots],
             steps,
-            rounding,
+            notes,
         }
     }
 
@@ -181,7 +198,7 @@ impl<'a> Sizes<'a> {
     fn total(&mut self, fields: &[FieldDef], owner: Part) -> Worked<Size> {
         let mut total = fixed(0);
         for field in fields {
-            let size = self.field(field)?;
+            let size = self.field(field, owner)?;
             let size = self.laid(size, total, owner)?;
             total.least = sum(total.least, size.least)?;
             total.most = match (total.most, size.most) {
@@ -199,7 +216,7 @@ impl<'a> Sizes<'a> {
         if self.layout == Layout::Packed {
             return Ok(size);
         }
-        self.rounding.note(owner, size, total);
+        self.notes.rounding.note(owner, size, total);
         Ok(Size {
             least: whole_bytes(size.least)?,
             most: size.most.map(whole_bytes).transpose()?,
@@ -219,16 +236,59 @@ impl<'a> Sizes<'a> {
         Ok(between(least, raised(most, 8)?))
     }
 
-    fn field(&mut self, field: &FieldDef) -> Worked<Size> {
-        let mut encoding = &field.encoding.encoding;
-        while let Encoding::Delta(inner) = encoding {
-            encoding = inner;
+    fn field(&mut self, field: &FieldDef, owner: Part) -> Worked<Size> {
+        let ty = &field.resolved_type;
+        if let Some((limit, element)) = limited(field) {
+            self.notes.limits.note(field, owner);
+            self.steps.enter();
+            let size = self.limited(ty, limit, element);
+            self.steps.leave();
+            return size.map_err(|halt| halt.inside(Part::Limited));
         }
-        match encoding {
-            Encoding::Varint => Ok(groups(&field.resolved_type, 0)),
-            Encoding::ZigZag => Ok(groups(&field.resolved_type, 1)),
-            _ => self.of_type(&field.resolved_type),
+        let registry = &self.schema.registry;
+        self.notes.limits.note_other(field, registry);
+        match innermost(field) {
+            Encoding::Varint => Ok(in_groups(ty, 0)),
+            Encoding::ZigZag => Ok(in_groups(ty, 1)),
+            _ => self.of_type(ty),
         }
+    }
+
+    /// A field of so many elements at most, and of none at least; never Fixed.
+    fn limited(&mut self, ty: &ResolvedType, limit: u64, element: Element<'_>) -> Worked<Size> {
+        let element = match element {
+            Element::One(one) => self.inside(one, Step::Inside)?,
+            Element::Entry(key, value) => self.entry(key, value)?,
+        };
+        self.notes.limits.note_element(ty, limit, element);
+        let Some(most) = element.most else {
+            return Ok(between(8, None));
+        };
+        let all = product(most, limit.into()).map_err(|halt| halt.at(Step::Product))?;
+        let count = u128::from(8 * groups(limit));
+        let most = sum(count, all).map_err(|halt| halt.at(Step::Sum))?;
+        Ok(between(8, Some(most)))
+    }
+
+    /// A key and a value, both worked out in every case. Their largest are added if
+    /// both have one, their smallest never: an element's is not asked for.
+    fn entry(&mut self, key: &ResolvedType, value: &ResolvedType) -> Worked<Size> {
+        let key = self.inside(key, Step::Inside)?;
+        let step = match key.most {
+            Some(_) => Step::Inside,
+            None => Step::Value,
+        };
+        let value = self.inside(value, step)?;
+        self.notes.limits.note_entry(key, value);
+        let both = key.most.zip(value.most);
+        let most = both.map(|(key, value)| sum(key, value)).transpose();
+        let most = most.map_err(|halt| halt.at(Step::Entry))?;
+        Ok(between(0, most))
+    }
+
+    /// A type inside a limited field.
+    fn inside(&mut self, ty: &ResolvedType, step: Step) -> Worked<Size> {
+        self.of_type(ty).map_err(|halt| halt.at(step))
     }
 
     fn of_type(&mut self, ty: &ResolvedType) -> Worked<Size> {
@@ -365,7 +425,7 @@ fn semantic_size(semantic: SemanticType) -> Size {
 }
 
 /// Varint (0) and ZigZag (1): bytes of seven bits each, to ten.
-fn groups(ty: &ResolvedType, signed: usize) -> Size {
+fn in_groups(ty: &ResolvedType, signed: usize) -> Size {
     let short = [PrimitiveType::U16, PrimitiveType::I16][signed];
     let middle = [PrimitiveType::U32, PrimitiveType::I32][signed];
     let most = match ty {

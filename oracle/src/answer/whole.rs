@@ -7,9 +7,8 @@ use super::fields::each_wanted;
 use super::findings::{findings, mark_spans, Finding};
 use super::kinds::FieldCounts;
 use super::limit::PassedLimit;
-use super::moved::move_retired;
-use super::rounding::Rounding;
-use super::sizes::{size_table, Stop};
+use super::moved::{has_limited, move_retired, take_out_limits};
+use super::sizes::{size_table, Notes, Stop};
 use super::steps::{Steps, TooLong, STEP_LIMIT};
 use super::{refused, Answer, Places};
 use crate::format::{Edition, Entry, Layout};
@@ -61,8 +60,8 @@ pub struct Whole {
     pub fields: FieldCounts,
     /// What edition two adds, or was refused of it.
     pub added: AddedCounts,
-    /// What was rounded; nothing in the packed layout.
-    pub rounding: Rounding,
+    /// What was rounded, and what limits bear on.
+    pub notes: Notes,
     sizes: Result<Vec<u64>, Failure>,
     findings: Result<Vec<u32>, TooLong>,
 }
@@ -90,7 +89,7 @@ impl Whole {
             unions: [0; 3],
             fields: FieldCounts::default(),
             added: AddedCounts::default(),
-            rounding: Rounding::default(),
+            notes: Notes::default(),
             sizes: Err(Failure::TooLong),
             findings: Err(TooLong),
         };
@@ -116,20 +115,16 @@ impl Whole {
         limit: u64,
     ) {
         let mut steps = Steps::new(&schema, limit);
-        let table = match self.table(&schema, layout, &mut steps) {
-            Ok(table) => table,
-            Err(failure) => {
-                self.sizes = Err(failure);
-                return;
-            }
-        };
-        // The upstream check packs, so its table is held against the packed one; it
-        // knows no retired ones, so for it they are live.
-        let packed = match layout {
-            Layout::Packed => table.clone(),
-            Layout::Aligned => packed_table(&schema, limit),
-        };
+        self.sizes = self.table(&schema, layout, &mut steps);
+        // The upstream check packs and knows no limits, so its table is held against
+        // one that is worked out so; it knows no retired ones, so for it they are live.
+        let plain = self.plain_table(&mut schema, layout, limit);
         move_retired(&mut schema);
+        let Some(plain) = plain else {
+            assert!(self.sizes.is_err(), "refused without limits and rounding");
+            return;
+        };
+        let with_findings = with_findings && self.sizes.is_ok();
         if with_findings && steps.charge_findings(&schema).is_ok() {
             let spans = mark_spans(&mut schema);
             let diagnostics = check(&mut schema);
@@ -140,9 +135,31 @@ impl Whole {
             compute_wire_sizes(&mut schema);
         }
         let upstream = stored_table(&schema);
-        assert_eq!(upstream, packed, "sizes upstream and worked out here");
-        self.sizes = Ok(table);
-        self.unions = union_turns(&schema);
+        assert_eq!(upstream, plain, "sizes upstream and worked out here");
+        if self.sizes.is_ok() {
+            self.unions = union_turns(&schema);
+        }
+    }
+
+    /// The packed table without limits, if it is accepted; they are taken out. No
+    /// size in it is larger than in the one that is known, and it takes no more
+    /// steps.
+    fn plain_table(
+        &self,
+        schema: &mut CompiledSchema,
+        layout: Layout,
+        limit: u64,
+    ) -> Option<Vec<u64>> {
+        let is_plain = layout == Layout::Packed && !has_limited(schema);
+        take_out_limits(schema);
+        match &self.sizes {
+            Ok(_) | Err(Failure::Limit { .. }) if !is_plain => {
+                let mut steps = Steps::new(schema, limit);
+                size_table(schema, Layout::Packed, &mut steps, &mut Notes::default()).ok()
+            }
+            Ok(table) => Some(table.clone()),
+            Err(_) => None,
+        }
     }
 
     fn table(
@@ -155,7 +172,7 @@ impl Whole {
         if let (Layout::Aligned, Some(slot)) = (layout, brings) {
             return Err(Failure::Brought { slot: slot as u64 });
         }
-        let table = size_table(schema, layout, steps, &mut self.rounding);
+        let table = size_table(schema, layout, steps, &mut self.notes);
         self.deepest = steps.deepest();
         Ok(table?)
     }
@@ -237,17 +254,6 @@ impl Whole {
             findings,
         })
     }
-}
-
-/// The packed table of a schema whose aligned one is known: no size in it is
-/// larger, and it takes as many steps.
-fn packed_table(schema: &CompiledSchema, limit: u64) -> Vec<u64> {
-    let mut steps = Steps::new(schema, limit);
-    let nothing = &mut Rounding::default();
-    let table = size_table(schema, Layout::Packed, &mut steps, nothing);
-    table
-        .ok()
-        .expect("what is accepted aligned is accepted packed")
 }
 
 fn union_turns(schema: &CompiledSchema) -> Unions {

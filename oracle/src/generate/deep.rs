@@ -2,7 +2,7 @@
 //! slots, each naming the next one below 31 wrappers.
 
 use crate::model::{
-    field, fixed, message, pair, union, wrap, Encoding, Field, Schema, Slot, Tree, OPTIONAL,
+    field, fixed, message, pair, union, wrap, Encoding, Field, Schema, Slot, Tree, MAP, OPTIONAL,
     RESULT, U8, VOID,
 };
 use crate::random::Random;
@@ -122,6 +122,28 @@ pub fn through_again(messages: u64) -> Schema {
         names: vec![0],
         slots: slots.collect(),
         declarations: vec![0],
+    }
+}
+
+/// Messages, each with a map of one entry at most, whose value is the next message
+/// below so many wrappers, 30 at most; for edition two, where the value is worked out.
+/// The last one is declared.
+pub fn through_entries(messages: u64, levels: u32) -> Schema {
+    let slots = (0..messages).map(|slot| match slot.checked_sub(1) {
+        None => message(slot, vec![field(0, U8)]),
+        Some(next) => {
+            let value = (0..levels).fold(Tree::Named(next), |tree, _| wrap(OPTIONAL, tree));
+            let entries = Field {
+                limit: 1,
+                ..field(0, pair(MAP, VOID, value))
+            };
+            message(slot, vec![entries])
+        }
+    });
+    Schema {
+        names: vec![0],
+        slots: slots.collect(),
+        declarations: vec![messages - 1],
     }
 }
 

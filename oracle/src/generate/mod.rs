@@ -14,6 +14,7 @@ pub mod findings;
 mod first;
 pub mod full;
 mod held;
+mod limited;
 mod limits;
 pub mod loops;
 mod matches;
@@ -158,8 +159,8 @@ pub static FAMILIES: &[Family] = &[
     family("trait-fields", 2_000, findings::trait_fields),
     family("many-findings", 20, findings::many),
     family("matches", 2_000, matches::matches),
-    images("added-numbers", 250, damage::added).only(TWO),
-    images("retired", 160, retired::retired).only(TWO),
+    images("added-numbers", 320, damage::added).only(TWO),
+    images("retired", 180, retired::retired).only(TWO),
     images("both-editions", 600, |random, _, emit| {
         emit(&both::both(random).bytes(Edition::One));
     })
@@ -177,6 +178,7 @@ pub static FAMILIES: &[Family] = &[
     family("rounding", 2_500, rounding::rounded).only(HEAD_BOARD),
     images("brought", 2_000, brought::brought).only(HEAD_BOARD),
     images("held-widths", 2_500, held::held_widths).only(TWO),
+    images("limited-arrays", 4_000, limited::limited_arrays).only(TWO),
 ];
 
 /// The first families, which the recorded answers of reading are drawn from:

@@ -1,9 +1,11 @@
 //! Demand 3 tried by enumeration: the lengths of small schemas, by the length
-//! rules of document 01 and never from sizes, beside the rows of size tables. In
-//! edition two enums and flags have retired ones, which hold their widths. On
-//! the head board both are rounded, and no sizes are brought.
+//! rules of documents 01 and 02 and never from sizes, beside the rows of size
+//! tables. In edition two enums and flags have retired ones, which hold their
+//! widths, and fields have limits, which bound their elements. On the head board
+//! both are rounded, and no sizes are brought.
 
 pub mod clauses;
+mod limits;
 pub(crate) mod parts;
 pub mod rules;
 pub mod set;
@@ -14,7 +16,7 @@ use std::fmt;
 use std::ops::ControlFlow;
 
 use crate::answer::moved::take_out_retired;
-use crate::answer::{Answer, Whole, PROGRAM_PLACES};
+use crate::answer::{Answer, Bearing, Whole, PROGRAM_PLACES};
 use crate::compare::{each_image, Selection};
 use crate::format::{Edition, Entry, Layout};
 use crate::generate::brought::bring_nothing;
@@ -27,6 +29,7 @@ use crate::random::Random;
 use crate::shrink::shrink;
 use crate::workers::{in_parallel, THREADS};
 use clauses::{Clause, Facts, Proviso, Tally};
+use limits::LimitsMet;
 use rules::lengths_of_slots;
 use set::Lengths;
 
@@ -129,6 +132,8 @@ pub struct Met {
     pub rounded: u64,
     /// Declared messages and unions that have other lengths without retired ones.
     pub held: u64,
+    /// What has to do with arrays and their limits.
+    pub limits: LimitsMet,
     pub kinds: [u64; KINDS],
     pub encodings: [u64; ENCODINGS],
 }
@@ -210,11 +215,13 @@ fn run_one(
     subjects: &[Subject],
     part: &mut Part,
 ) -> ControlFlow<Broken> {
-    let Some(imported) = accepted(image, entry) else {
+    let Some((imported, noted)) = accepted(image, entry) else {
         return ControlFlow::Continue(());
     };
     let facts = Facts::of(&imported.schema, entry.layout);
     part.met.count(&imported.schema, &facts);
+    let limits = &mut part.met.limits;
+    limits.count(&imported.schema, &facts, entry.layout, &noted);
     if entry.layout == Layout::Aligned {
         part.met.count_rounded(&imported.schema, &facts);
     }
@@ -420,6 +427,7 @@ impl Met {
         if entry.edition == Edition::Two {
             floors.push(("held by retired ones".into(), self.held, 50));
         }
+        floors.extend(self.limits.floors(entry.edition));
         for (kind, &count) in self.kinds.iter().enumerate() {
             floors.push((format!("type kind {kind}"), count, 50));
         }
@@ -445,6 +453,7 @@ impl Met {
             (&mut self.held, other.held),
         ];
         pairs.into_iter().for_each(|(count, more)| *count += more);
+        self.limits.add(&other.limits);
         let kinds = self.kinds.iter_mut().zip(other.kinds);
         let encodings = self.encodings.iter_mut().zip(other.encodings);
         kinds.chain(encodings).for_each(|(one, more)| *one += more);
@@ -458,14 +467,18 @@ fn others(facts: &Facts, lengths: &[Lengths]) -> u64 {
     others.count() as u64
 }
 
-/// The image as imported, if the Rust accepts it and does not take too long.
-fn accepted(image: &[u8], entry: Entry) -> Option<Imported> {
+/// The image as imported, and what its limits bear on, if the Rust accepts it and
+/// does not take too long.
+fn accepted(image: &[u8], entry: Entry) -> Option<(Imported, Bearing)> {
     let imported = import(image, entry.edition).ok()?;
     if imported.starts.len() > MOST_SLOTS {
         return None;
     }
-    Table::Rust(entry).of(image, imported.starts.len())?;
-    Some(imported)
+    let whole = Whole::sizes_of(image, entry);
+    match whole.sizes_answer(u64::MAX) {
+        Ok(Answer::Accepted { .. }) => Some((imported, whole.notes.limits)),
+        _ => None,
+    }
 }
 
 /// What is wrong with a subject's table, if anything is.
@@ -490,7 +503,7 @@ fn smallest(image: &[u8], entry: Entry, told_first: String, subject: &Subject) -
         told: told_first,
     };
     shrink(image, &mut |tried| {
-        let Some(imported) = accepted(tried, entry) else {
+        let Some((imported, _)) = accepted(tried, entry) else {
             return false;
         };
         let facts = Facts::of(&imported.schema, entry.layout);
@@ -554,8 +567,9 @@ impl fmt::Display for Met {
         )?;
         // Edition one has none.
         match self.held {
-            0 => Ok(()),
-            held => write!(out, "; held by retired ones {held}"),
+            0 => {}
+            held => write!(out, "; held by retired ones {held}")?,
         }
+        self.limits.fmt(out)
     }
 }

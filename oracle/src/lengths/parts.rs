@@ -1,8 +1,10 @@
 //! What a type is made of, and whether that leads back, as document 01 says
 //! it: all parts but elements of Array, Map and Set; a Varint or ZigZag field
-//! has none.
+//! has none. By document 02 the elements of a field that has a limit of them are
+//! parts too.
 
-use super::rules::innermost;
+use crate::answer::elements::{innermost, limited, Element};
+use crate::answer::parts::each_node;
 use crate::ir::{CompiledSchema, Encoding, FieldDef, ResolvedType, TypeDef, TypeId};
 
 /// Per slot, whether something it is made of leads back to itself.
@@ -43,10 +45,36 @@ pub fn parts_of(schema: &CompiledSchema, slot: usize) -> Vec<usize> {
     parts
 }
 
+/// All slots that a slot's types name, in elements too.
+pub fn names_of(schema: &CompiledSchema, slot: usize) -> Vec<usize> {
+    let mut names = Vec::new();
+    let mut add = |ty: &ResolvedType| {
+        each_node(ty, &mut |node| {
+            if let ResolvedType::Named(id) = node {
+                names.push(id.index() as usize);
+            }
+        });
+    };
+    let mut add_all = |fields: &[FieldDef]| fields.iter().for_each(|one| add(&one.resolved_type));
+    match schema.registry.get(TypeId(slot as u32)) {
+        Some(TypeDef::Message(message)) => add_all(&message.fields),
+        Some(TypeDef::Union(un)) => un.variants.iter().for_each(|one| add_all(&one.fields)),
+        Some(TypeDef::Newtype(newtype)) => add(&newtype.terminal_type),
+        _ => {}
+    }
+    names
+}
+
 fn add_fields(fields: &[FieldDef], parts: &mut Vec<usize>) {
     for field in fields {
-        if !matches!(innermost(field), Encoding::Varint | Encoding::ZigZag) {
-            add_type(&field.resolved_type, parts);
+        match (limited(field), innermost(field)) {
+            (Some((_, Element::One(one))), _) => add_type(one, parts),
+            (Some((_, Element::Entry(key, value))), _) => {
+                add_type(key, parts);
+                add_type(value, parts);
+            }
+            (None, Encoding::Varint | Encoding::ZigZag) => {}
+            _ => add_type(&field.resolved_type, parts),
         }
     }
 }

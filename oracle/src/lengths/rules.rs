@@ -1,9 +1,15 @@
 //! The lengths of values, by the length rules of document 01 alone, and by what
-//! document 02 adds for the head board. Values are finite, so the lengths of all
-//! slots are the least sets that the rules keep.
+//! document 02 says of arrays, sets and maps and adds for limits and for the head
+//! board. Values are finite, so the lengths of all slots are the least sets that
+//! the rules keep.
 
-use super::parts::parts_of;
+use std::cell::RefCell;
+use std::collections::HashMap;
+
+use super::parts::names_of;
 use super::set::Lengths;
+use crate::answer::elements::{element, innermost, limited, Element};
+use crate::answer::parts::each_node;
 use crate::answer::widths::{enum_bits, flags_bytes, primitive_bits};
 use crate::ast::{PrimitiveType, SemanticType};
 use crate::format::Layout;
@@ -12,22 +18,17 @@ use crate::ir::{CompiledSchema, Encoding, FieldDef, ResolvedType, TypeDef, TypeI
 /// The lengths of each slot's values.
 pub fn lengths_of_slots(schema: &CompiledSchema, layout: Layout) -> Vec<Lengths> {
     let slots = schema.registry.len();
-    let mut rules = Rules {
-        schema,
-        layout,
-        declared: declared(schema),
-        slots: vec![Lengths::NONE; slots],
-    };
-    // A slot's lengths rest on those of its parts alone.
-    let parts: Vec<Vec<usize>> = (0..slots).map(|slot| parts_of(schema, slot)).collect();
+    let mut rules = Rules::new(schema, layout, vec![Lengths::NONE; slots]);
+    // A slot's lengths rest on those of the slots that it names alone.
+    let names: Vec<Vec<usize>> = (0..slots).map(|slot| names_of(schema, slot)).collect();
     let mut stale = vec![true; slots];
     while let Some(slot) = stale.iter().position(|&stale| stale) {
         stale[slot] = false;
         let lengths = rules.of_slot(slot);
         if lengths != rules.slots[slot] {
             rules.slots[slot] = lengths;
-            for (user, parts) in parts.iter().enumerate() {
-                stale[user] |= parts.contains(&slot);
+            for (user, names) in names.iter().enumerate() {
+                stale[user] |= names.contains(&slot);
             }
         }
     }
@@ -45,13 +46,26 @@ pub fn declared(schema: &CompiledSchema) -> Vec<bool> {
     declared
 }
 
-/// An encoding, Delta taken for its inner one.
-pub fn innermost(field: &FieldDef) -> &Encoding {
-    let mut encoding = &field.encoding.encoding;
-    while let Encoding::Delta(inner) = encoding {
-        encoding = inner;
+/// Whether one of these messages and unions has an array, set or map whose element
+/// has no length, the lengths of all slots being known.
+pub fn has_empty_elements(schema: &CompiledSchema, slots: &[usize], lengths: &[Lengths]) -> bool {
+    let rules = Rules::new(schema, Layout::Packed, lengths.to_vec());
+    let mut is_met = false;
+    let mut look = |fields: &[FieldDef]| {
+        for field in fields {
+            each_node(&field.resolved_type, &mut |node| {
+                is_met |= element(node).is_some_and(|one| rules.of_element(one).is_empty());
+            });
+        }
+    };
+    for &slot in slots {
+        match schema.registry.get(TypeId(slot as u32)) {
+            Some(TypeDef::Message(message)) => look(&message.fields),
+            Some(TypeDef::Union(un)) => un.variants.iter().for_each(|one| look(&one.fields)),
+            _ => {}
+        }
     }
-    encoding
+    is_met
 }
 
 struct Rules<'a> {
@@ -60,9 +74,21 @@ struct Rules<'a> {
     declared: Vec<bool>,
     /// What the rules have reached so far.
     slots: Vec<Lengths>,
+    /// Arrays by their elements and the most that they have, each worked out once.
+    arrays: RefCell<HashMap<(Lengths, u64), Lengths>>,
 }
 
-impl Rules<'_> {
+impl<'a> Rules<'a> {
+    fn new(schema: &'a CompiledSchema, layout: Layout, slots: Vec<Lengths>) -> Self {
+        Self {
+            schema,
+            layout,
+            declared: declared(schema),
+            slots,
+            arrays: RefCell::default(),
+        }
+    }
+
     fn of_slot(&self, slot: usize) -> Lengths {
         match self.schema.registry.get(TypeId(slot as u32)) {
             Some(TypeDef::Message(message)) => self.of_fields(&message.fields),
@@ -102,6 +128,9 @@ impl Rules<'_> {
     /// An encoding governs only the field's own type.
     fn of_field(&self, field: &FieldDef) -> Lengths {
         use PrimitiveType::*;
+        if let Some((limit, element)) = limited(field) {
+            return self.counted(element, limit);
+        }
         let own = match &field.resolved_type {
             ResolvedType::Primitive(primitive) => Some(*primitive),
             _ => None,
@@ -126,9 +155,10 @@ impl Rules<'_> {
                 None => Lengths::any_from(0),
             },
             ResolvedType::Optional(part) => Lengths::one(0).or(&self.of_type(part)).longer(1),
-            ResolvedType::Array(_) | ResolvedType::Map(_, _) | ResolvedType::Set(_) => {
-                Lengths::any_from(8)
+            ResolvedType::Array(one) | ResolvedType::Set(one) => {
+                self.counted(Element::One(one), u64::MAX)
             }
+            ResolvedType::Map(key, value) => self.counted(Element::Entry(key, value), u64::MAX),
             ResolvedType::Result(ok, err) => self.of_type(ok).or(&self.of_type(err)).longer(1),
             ResolvedType::FixedArray(part, size) => self.of_type(part).times(*size),
             ResolvedType::Vec2(part) => self.of_type(part).times(2),
@@ -137,6 +167,23 @@ impl Rules<'_> {
             ResolvedType::Mat3(part) => self.of_type(part).times(9),
             ResolvedType::Mat4(part) => self.of_type(part).times(16),
         }
+    }
+
+    fn of_element(&self, element: Element<'_>) -> Lengths {
+        match element {
+            Element::One(one) => self.of_type(one),
+            Element::Entry(key, value) => self.of_type(key).plus(&self.of_type(value)),
+        }
+    }
+
+    /// Up to so many elements behind their count. None is denied for being there
+    /// already.
+    fn counted(&self, element: Element<'_>, most: u64) -> Lengths {
+        let element = self.of_element(element);
+        let mut arrays = self.arrays.borrow_mut();
+        *arrays
+            .entry((element, most))
+            .or_insert_with(|| element.counted(most))
     }
 }
 

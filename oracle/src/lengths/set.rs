@@ -3,13 +3,15 @@
 
 use std::fmt;
 
+use crate::answer::elements::groups;
+
 /// Lengths below this are told one from another.
 pub const HORIZON: u64 = 1_024;
 
 const WORD: u64 = 64;
 const WORDS: usize = (HORIZON / WORD) as usize;
 
-#[derive(Clone, Copy, PartialEq, Eq)]
+#[derive(Clone, Copy, PartialEq, Eq, Hash)]
 pub struct Lengths {
     words: [u64; WORDS],
     /// A length at the horizon or past it is in the set.
@@ -105,8 +107,13 @@ impl Lengths {
         sum
     }
 
-    /// So many lengths together; none of them are 0 bits.
-    pub fn times(&self, mut count: u64) -> Self {
+    /// So many lengths together; none of them are 0 bits. More than the horizon has
+    /// bits are the same: those that are not 0 lie past it.
+    pub fn times(&self, count: u64) -> Self {
+        if let Some(sum) = self.many_times(count) {
+            return sum;
+        }
+        let mut count = count.min(HORIZON);
         let (mut sum, mut power) = (Self::one(0), *self);
         while count > 0 {
             if count & 1 == 1 {
@@ -118,6 +125,66 @@ impl Lengths {
             }
         }
         sum
+    }
+
+    /// The same where so many that are not 0 are sure to reach the horizon.
+    fn many_times(&self, count: u64) -> Option<Self> {
+        let (_, most) = self.ends()?;
+        let least = self.below_horizon().find(|&bits| bits > 0)?;
+        let far = self.beyond || most.saturating_mul(count) >= HORIZON;
+        match self.has(0) {
+            Some(true) if (HORIZON - 1) / least <= count => {
+                let mut sum = self.any_number();
+                sum.beyond = far;
+                Some(sum)
+            }
+            Some(false) if least.saturating_mul(count) >= HORIZON => Some(Self::one(HORIZON)),
+            _ => None,
+        }
+    }
+
+    /// Any number of lengths together, below the horizon.
+    fn any_number(&self) -> Self {
+        let mut all = Self::one(0);
+        for bits in self.below_horizon().filter(|&bits| bits > 0) {
+            // Else it is a sum of those before it, which are in.
+            if all.has(bits) == Some(false) {
+                let mut step = bits;
+                while step < HORIZON {
+                    all = all.or(&all.longer(step));
+                    step *= 2;
+                }
+            }
+        }
+        all
+    }
+
+    /// An array of up to `most` such elements: their count, 8 bits for each group of
+    /// seven bits that it takes, and then so many of them.
+    pub fn counted(&self, most: u64) -> Self {
+        let one_or_none = self.or(&Self::one(0));
+        // From the horizon on, as many elements are the same as more.
+        let many = (most >= HORIZON).then(|| self.times(HORIZON));
+        let mut all = Self::NONE;
+        let mut first = 0;
+        loop {
+            let groups = groups(first);
+            // Ten groups hold every count.
+            let last = match groups {
+                10 => u64::MAX,
+                _ => (1 << (7 * groups)) - 1,
+            };
+            let last = last.min(most);
+            let elements = match many {
+                Some(many) if first >= HORIZON => many,
+                _ => self.times(first).plus(&one_or_none.times(last - first)),
+            };
+            all = all.or(&elements.longer(8 * groups));
+            if last == most {
+                return all;
+            }
+            first = last + 1;
+        }
     }
 
     /// Each length, and up to `count` − 1 bits more.

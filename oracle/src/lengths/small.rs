@@ -1,6 +1,7 @@
 //! Small schemas whose lengths can be enumerated: few slots, few bits, all
 //! kinds and encodings, loops, repeated and dangling declarations, and sizes
-//! that are brought, true to the lengths or not; in edition two retired ones.
+//! that are brought, true to the lengths or not; in edition two retired ones and
+//! limits.
 
 use super::rules::lengths_of_slots;
 use super::set::Lengths;
@@ -8,8 +9,8 @@ use crate::format::{Edition, Layout};
 use crate::generate::trees::{encoding, WRAPS};
 use crate::import::import;
 use crate::model::{
-    field, fixed, live, message, pair, union, wrap, Field, Impl, Schema, Slot, Stored, Tree, BOOL,
-    MAP, OPTIONAL, RESULT, VEC2,
+    field, fixed, live, message, pair, union, wrap, Field, Impl, Schema, Slot, Stored, Tree, ARRAY,
+    BOOL, MAP, OPTIONAL, RESULT, SET, U8, VEC2, VOID,
 };
 use crate::random::Random;
 
@@ -40,8 +41,12 @@ pub fn small(random: &mut Random, edition: Edition) -> Schema {
         slots: list.collect(),
         declarations: declarations(random, slots),
     };
+    if random.once_in(10) {
+        endless_elements(random, &mut schema.slots);
+    }
     if edition == Edition::Two {
         retire(random, &mut schema.slots);
+        limit(random, &mut schema.slots);
     }
     let brings = random.pick(&[
         Brings::Nothing,
@@ -135,9 +140,17 @@ fn slot_of(random: &mut Random, slot: u64, kinds: &[u64]) -> Slot {
             // No newtype leads back by terminal types alone.
             let earlier = |&id: &u64| id < slot || kinds.get(id as usize) != Some(&5);
             let named: Vec<u64> = any.iter().copied().filter(earlier).collect();
+            let terminal = match random.once_in(4) {
+                // Through elements it may.
+                true => {
+                    let other = Tree::Named(random.pick(&any));
+                    array(random, &[Tree::Named(slot), other])
+                }
+                false => tree(random, 3, &named),
+            };
             Slot::Newtype {
                 inner: BOOL,
-                terminal: tree(random, 3, &named),
+                terminal,
             }
         }
         kind => without_size(random, kind),
@@ -189,6 +202,83 @@ fn retire(random: &mut Random, slots: &mut [Slot]) {
         ];
         let tree = random.pick(&trees);
         add_field(random, slot as u64, tree, slots);
+    }
+}
+
+/// A message of nothing but itself, which has no value, and an array of it in another
+/// one.
+fn endless_elements(random: &mut Random, slots: &mut [Slot]) {
+    let slot = random.below(slots.len() as u64);
+    slots[slot as usize] = message(slot, vec![field(0, Tree::Named(slot))]);
+    let tree = array(random, &[Tree::Named(slot)]);
+    add_field(random, slot, tree, slots);
+}
+
+/// Limits on all fields of few, short elements, and one or two fields more whose
+/// elements a limit bears on, their own message among them.
+fn limit(random: &mut Random, slots: &mut [Slot]) {
+    for _ in 0..random.below(3) {
+        let slot = random.below(slots.len() as u64);
+        let tree = match random.below(3) {
+            0 => array(random, &[VOID, fixed(BOOL, 0)]),
+            1 => array(random, &[BOOL, U8, Tree::SubByte(0, 3)]),
+            _ => array(random, &[BOOL, Tree::Semantic(0), Tree::Named(slot)]),
+        };
+        let other = random.pick(&[slot, slots.len() as u64]);
+        add_field(random, other, tree, slots);
+    }
+    for slot in slots {
+        match slot {
+            Slot::Message { fields, .. } => limit_all(random, fields),
+            Slot::Union { variants, .. } => {
+                let lists = variants.iter_mut();
+                lists.for_each(|fields| limit_all(random, fields));
+            }
+            _ => {}
+        }
+    }
+}
+
+fn limit_all(random: &mut Random, fields: &mut [Field]) {
+    for field in fields {
+        let bits = match &field.tree {
+            Tree::Wrap(_, part) => about(part),
+            Tree::Pair(_, key, value) => about(key) + about(value),
+            _ => 1,
+        };
+        field.limit = match bits {
+            0 => random.pick(&[0, 1, 127, 127, 128, 128, 300]),
+            1..=40 => random.pick(&[0, 1, 1, 2, 2, 3, 3]),
+            _ => random.pick(&[0, 1, 1]),
+        };
+    }
+}
+
+/// About how many bits a type has at most, 0 only if it is 0; so few elements are
+/// taken that their lengths stay within the horizon.
+fn about(tree: &Tree) -> u64 {
+    match tree {
+        Tree::Primitive(13) => 0,
+        Tree::Primitive(0) => 1,
+        Tree::Primitive(1 | 5) => 8,
+        Tree::Primitive(_) => 64,
+        Tree::SubByte(_, bits) => *bits,
+        Tree::Bits(names) => names.len() as u64,
+        Tree::Fixed(part, count) => about(part) * count,
+        // Without a largest.
+        Tree::Semantic(0 | 1) | Tree::Wrap(ARRAY | SET, _) | Tree::Pair(MAP, _, _) => 1,
+        Tree::Wrap(_, part) => 1 + 16 * about(part),
+        Tree::Pair(_, ok, err) => 1 + about(ok) + about(err),
+        _ => 100,
+    }
+}
+
+/// An Array, Set or Map of these elements.
+fn array(random: &mut Random, elements: &[Tree]) -> Tree {
+    match random.below(3) {
+        0 => wrap(ARRAY, random.pick(elements)),
+        1 => wrap(SET, random.pick(elements)),
+        _ => pair(MAP, random.pick(elements), random.pick(elements)),
     }
 }
 

@@ -2,8 +2,9 @@
 //! only this counts, whether it is Fixed and at how many bits, so nothing else
 //! of sizes is worked out here.
 
-use super::rules::{declared, innermost};
+use super::rules::declared;
 use crate::answer::brought;
+use crate::answer::elements::innermost;
 use crate::answer::widths::{enum_bits, flags_bytes, primitive_bits};
 use crate::ast::SemanticType;
 use crate::format::Layout;

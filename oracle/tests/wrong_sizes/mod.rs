@@ -1,14 +1,15 @@
-//! Sizes by the rules of document 01 with one rule made wrong, so that it is
-//! known what the enumerated lengths find, and the comparison of the head board.
-//! For sizes that are not refused.
+//! Sizes by the rules of documents 01 and 02 with one rule made wrong, so that it is
+//! known what the enumerated lengths find, and the comparisons of the head board and
+//! of limits.
 
-use oracle::format::Layout;
+use oracle::format::{Layout, SIZE_LIMIT};
 use oracle::model::{Field, Ordinals, Schema, Slot, Stored, Tree, ARRAY, MAP, OPTIONAL, SET};
 
 macro_rules! cases {
-    ($($case:ident)* ; $($rounding:ident)* ; $($retired:ident)*) => {
+    ($($case:ident)* ; $($rounding:ident)* ; $($retired:ident)* ; $($limits:ident)* ;
+     $($refusals:ident)*) => {
         #[derive(Debug, Clone, Copy, PartialEq, Eq)]
-        pub enum Wrong { $($case,)* $($rounding,)* $($retired),* }
+        pub enum Wrong { $($case,)* $($rounding,)* $($retired,)* $($limits,)* $($refusals),* }
 
         impl Wrong {
             pub const ALL: &[Wrong] = &[$(Wrong::$case),*];
@@ -16,6 +17,10 @@ macro_rules! cases {
             pub const OF_ROUNDING: &[Wrong] = &[$(Wrong::$rounding),*];
             /// Wrong in edition two alone.
             pub const OF_RETIRED: &[Wrong] = &[$(Wrong::$retired),*];
+            /// Wrong where limits bear on elements.
+            pub const OF_LIMITS: &[Wrong] = &[$(Wrong::$limits),*];
+            /// Wrong there alone where sizes are refused, or ought to be.
+            pub const OF_REFUSALS: &[Wrong] = &[$(Wrong::$refusals),*];
         }
     };
 }
@@ -44,6 +49,14 @@ cases! {
     ;
     EnumByLive FlagsByLive ByRetiredAlone NotWithoutLive UndeclaredByRetired BackedByRetired
     LessThanEight RetiredByCount
+    ;
+    LimitIgnored LimitOfSetIgnored LimitOfMapIgnored LimitInVariantIgnored LimitUnderDeltaIgnored
+    ZeroIsLimit LimitUnderOptional LimitInFixedArray LimitThroughNewtype LimitUnderVarint
+    LimitOfInner OneGroup NoGroup GroupsOfNext OneElementLess LimitTimesSmallest OpenElementCut
+    KeyAlone ValueAlone OneOfEntry SmallestOfElements FromNone LimitedFixed ElementsRounded
+    ;
+    SumForProduct ProductForSum ProductWraps EntryNotTested EntryByProduct ValueNotWorked
+    SmallestAdded SmallestMultiplied UnlimitedWorked
 }
 
 /// Wrong, and yet demand 3 holds; the comparison with the Rust tells these. A
@@ -54,6 +67,20 @@ pub const NOT_ASKED: [Wrong; 3] = [
     Wrong::LargestLost,
     Wrong::WorkingFromByte,
 ];
+
+/// The same of limits: without a largest, a row says less.
+pub const LIMITS_NOT_ASKED: [Wrong; 5] = [
+    Wrong::LimitIgnored,
+    Wrong::LimitOfSetIgnored,
+    Wrong::LimitOfMapIgnored,
+    Wrong::LimitInVariantIgnored,
+    Wrong::LimitUnderDeltaIgnored,
+];
+
+/// Slots that may be gone through, all in all and one in another: a wrong rule can
+/// go on without end.
+const MOST_SLOTS: u64 = 400_000;
+const MOST_DEEP: u64 = 5_000;
 
 #[derive(Clone, Copy, PartialEq, Eq)]
 struct Size {
@@ -77,8 +104,23 @@ fn between(least: u128, most: Option<u128>) -> Size {
     }
 }
 
-/// The size table, with one rule made wrong.
+/// What a wrong rule makes of a schema.
+pub struct Worked {
+    /// The size table, whatever is refused.
+    pub table: Vec<u64>,
+    /// The number and the slot of a refusal.
+    pub refused: Option<(u64, u64)>,
+    /// It would have gone on.
+    pub too_long: bool,
+}
+
+/// The size table, with one rule made wrong; for sizes that are not refused.
 pub fn table(schema: &Schema, layout: Layout, wrong: Wrong) -> Vec<u64> {
+    worked(schema, layout, wrong).table
+}
+
+/// What comes of a schema, with one rule made wrong.
+pub fn worked(schema: &Schema, layout: Layout, wrong: Wrong) -> Worked {
     let slots = schema.slots.len();
     let mut sizes = Sizes {
         schema,
@@ -86,7 +128,11 @@ pub fn table(schema: &Schema, layout: Layout, wrong: Wrong) -> Vec<u64> {
         wrong,
         stored: schema.slots.iter().map(brought).collect(),
         working: vec![false; slots],
+        passed: None,
+        left: MOST_SLOTS,
+        depth: 0,
     };
+    let mut refused = None;
     let mut turned = vec![false; slots];
     for &declared in &schema.declarations {
         let slot = declared as usize;
@@ -102,17 +148,15 @@ pub fn table(schema: &Schema, layout: Layout, wrong: Wrong) -> Vec<u64> {
             }
             _ => {}
         }
+        if let Some(number) = sizes.passed {
+            refused = refused.or(Some((number, declared)));
+        }
     }
-    let rows = (0..slots).map(|slot| match &schema.slots[slot] {
-        Slot::Enum { .. } => [4, sizes.enum_bits(slot) as u64, 0],
-        Slot::Flags { .. } => [5, sizes.flags_bytes(slot) as u64, 0],
-        _ => match sizes.stored[slot] {
-            None => [0, 0, 0],
-            Some(size) if turned[slot] => sizes.row(size),
-            Some(size) => row(size),
-        },
-    });
-    rows.flatten().collect()
+    Worked {
+        table: sizes.table(&turned),
+        refused,
+        too_long: sizes.left == 0,
+    }
 }
 
 fn row(size: Size) -> [u64; 3] {
@@ -142,9 +186,58 @@ struct Sizes<'a> {
     wrong: Wrong,
     stored: Vec<Option<Size>>,
     working: Vec<bool>,
+    /// The number of the first step past the limit.
+    passed: Option<u64>,
+    left: u64,
+    depth: u64,
 }
 
 impl Sizes<'_> {
+    /// Three numbers a slot, those that had a turn by the row rule.
+    fn table(&self, turned: &[bool]) -> Vec<u64> {
+        let rows = (0..turned.len()).map(|slot| match &self.schema.slots[slot] {
+            Slot::Enum { .. } => [4, self.enum_bits(slot) as u64, 0],
+            Slot::Flags { .. } => [5, self.flags_bytes(slot) as u64, 0],
+            _ => match self.stored[slot] {
+                None => [0, 0, 0],
+                Some(size) if turned[slot] => self.row(size),
+                Some(size) => row(size),
+            },
+        });
+        rows.flatten().collect()
+    }
+
+    /// What is past the limit stays just past it.
+    fn within(&mut self, bits: u128, number: u64) -> u128 {
+        let most = u128::from(SIZE_LIMIT);
+        if bits > most {
+            self.passed.get_or_insert(number);
+        }
+        bits.min(most + 1)
+    }
+
+    fn sum(&mut self, one: u128, other: u128) -> u128 {
+        self.within(one + other, 11)
+    }
+
+    fn product(&mut self, bits: u128, factor: u128) -> u128 {
+        self.within(bits * factor, 14)
+    }
+
+    fn raised(&mut self, most: Option<u128>, by: u128) -> Option<u128> {
+        most.map(|most| self.sum(most, by))
+    }
+
+    /// Whether one slot more may be gone through inside those that are.
+    fn enter(&mut self) -> bool {
+        self.left = match self.depth < MOST_DEEP {
+            true => self.left.saturating_sub(1),
+            false => 0,
+        };
+        self.depth += u64::from(self.left > 0);
+        self.left > 0
+    }
+
     fn is(&self, wrong: Wrong) -> bool {
         self.wrong == wrong
     }
@@ -176,6 +269,9 @@ impl Sizes<'_> {
 
     fn work(&mut self, slot: usize) -> Size {
         let schema = self.schema;
+        if !self.enter() {
+            return between(0, None);
+        }
         self.working[slot] = true;
         let size = match &schema.slots[slot] {
             Slot::Message { fields, .. } if fields.is_empty() => {
@@ -186,6 +282,7 @@ impl Sizes<'_> {
             _ => unreachable!("only messages and unions are worked out"),
         };
         self.working[slot] = false;
+        self.depth -= 1;
         size
     }
 
@@ -193,14 +290,14 @@ impl Sizes<'_> {
         let mut total = fixed(0);
         let kept = fields.len() - usize::from(self.is(Wrong::LastFieldLost) && fields.len() > 1);
         for (left, field) in (0..kept).rev().zip(fields) {
-            let size = self.field(field);
+            let size = self.field(field, in_variant);
             let size = match self.is_laid(size, left == 0, in_variant) {
                 true => self.laid(size),
                 false => size,
             };
-            total.least += size.least;
+            total.least = self.sum(total.least, size.least);
             total.most = match (total.most, size.most) {
-                (Some(total), Some(most)) => Some(total + most),
+                (Some(total), Some(most)) => Some(self.sum(total, most)),
                 (total, None) if self.is(Wrong::OpenFieldLost) => total,
                 _ => None,
             };
@@ -226,8 +323,9 @@ impl Sizes<'_> {
         self.layout == Layout::Aligned && !not
     }
 
-    fn laid(&self, size: Size) -> Size {
-        let up = |bits: u128| match self.wrong {
+    fn laid(&mut self, size: Size) -> Size {
+        let wrong = self.wrong;
+        let up = |bits: u128| match wrong {
             Wrong::RoundedDown => bits - bits % 8,
             Wrong::RoundedToNext => bits - bits % 8 + 8,
             Wrong::RoundedToTwoBytes => bits.next_multiple_of(16),
@@ -235,6 +333,8 @@ impl Sizes<'_> {
         };
         let least = self.unless(Wrong::SmallestNotRounded, up(size.least), size.least);
         let most = self.unless(Wrong::LargestNotRounded, size.most.map(up), size.most);
+        let least = self.sum(least, 0);
+        let most = self.raised(most, 0);
         let equal = self.is(Wrong::EqualEndsFixed) && Some(least) == most;
         Size {
             fixed: size.fixed || equal,
@@ -278,17 +378,21 @@ impl Sizes<'_> {
             Wrong::UnionOfLeast => mosts.min(),
             _ => mosts.max(),
         };
+        let least = self.sum(tag, least.unwrap_or(0));
         let most = match open && !self.is(Wrong::UnionOpenVariantLost) {
             true => None,
-            false => most.map(|most| tag + most),
+            false => self.raised(most, tag),
         };
         Size {
             fixed: self.is(Wrong::UnionFixed) && totals.iter().all(|total| total.fixed),
-            ..between(tag + least.unwrap_or(0), most)
+            ..between(least, most)
         }
     }
 
-    fn field(&mut self, field: &Field) -> Size {
+    fn field(&mut self, field: &Field, in_variant: bool) -> Size {
+        if let Some(size) = self.limited_field(field, in_variant) {
+            return size;
+        }
         let own = match field.tree {
             Tree::Primitive(number) => Some(number),
             _ => None,
@@ -335,23 +439,163 @@ impl Sizes<'_> {
             Tree::Named(id) => self.name(*id as usize),
             Tree::Fixed(part, count) => self.array(part, u128::from(*count)),
             Tree::Wrap(OPTIONAL, part) => self.optional(part),
-            Tree::Wrap(ARRAY, _) => between(
-                self.unless(Wrong::ArrayFromNone, 8, 0),
-                self.unless(Wrong::ArrayHasLargest, None, Some(500)),
-            ),
-            Tree::Wrap(SET, _) => between(self.unless(Wrong::SetFromMore, 8, 9), None),
-            Tree::Pair(MAP, _, _) => between(8, self.unless(Wrong::MapHasLargest, None, Some(500))),
+            Tree::Wrap(ARRAY | SET, _) | Tree::Pair(MAP, _, _) => self.unlimited(tree),
             Tree::Pair(_, ok, err) => self.result(ok, err),
             Tree::Wrap(kind, part) => {
                 let size = self.part(part);
                 let factor = self.factor(*kind);
                 Size {
-                    least: size.least * factor,
-                    most: size.most.map(|most| most * factor),
+                    most: size.most.map(|most| self.product(most, factor)),
+                    least: self.product(size.least, factor),
                     ..size
                 }
             }
             _ => unreachable!("no type"),
+        }
+    }
+
+    fn unlimited(&mut self, tree: &Tree) -> Size {
+        if self.is(Wrong::UnlimitedWorked) {
+            match tree {
+                Tree::Wrap(_, one) => {
+                    self.of(one);
+                }
+                Tree::Pair(_, key, value) => {
+                    self.of(key);
+                    self.of(value);
+                }
+                _ => {}
+            }
+        }
+        match tree {
+            Tree::Wrap(ARRAY, _) => between(
+                self.unless(Wrong::ArrayFromNone, 8, 0),
+                self.unless(Wrong::ArrayHasLargest, None, Some(500)),
+            ),
+            Tree::Wrap(_, _) => between(self.unless(Wrong::SetFromMore, 8, 9), None),
+            _ => between(8, self.unless(Wrong::MapHasLargest, None, Some(500))),
+        }
+    }
+
+    /// The size of a field that its limit bears on.
+    fn limited_field(&mut self, field: &Field, in_variant: bool) -> Option<Size> {
+        let not = match self.wrong {
+            Wrong::LimitIgnored => true,
+            Wrong::LimitInVariantIgnored => in_variant,
+            Wrong::LimitUnderDeltaIgnored => field.encoding.deltas > 0,
+            _ => false,
+        };
+        let is_limit = field.limit > 0 || self.is(Wrong::ZeroIsLimit);
+        let is_default = field.encoding.last == 0 || self.is(Wrong::LimitUnderVarint);
+        match is_limit && is_default && !not {
+            true => self.limited(&field.tree, field.limit),
+            false => None,
+        }
+    }
+
+    fn limited(&mut self, tree: &Tree, limit: u64) -> Option<Size> {
+        let schema = self.schema;
+        match tree {
+            Tree::Wrap(SET, _) if self.is(Wrong::LimitOfSetIgnored) => None,
+            Tree::Pair(MAP, _, _) if self.is(Wrong::LimitOfMapIgnored) => None,
+            Tree::Wrap(ARRAY | SET, one) => {
+                let one = match self.wrong {
+                    Wrong::LimitOfInner => self.limited(one, limit),
+                    _ => None,
+                }
+                .unwrap_or_else(|| self.element(one));
+                Some(self.up_to(limit, one))
+            }
+            Tree::Pair(MAP, key, value) => {
+                let entry = self.entry(key, value);
+                Some(self.up_to(limit, entry))
+            }
+            Tree::Wrap(OPTIONAL, part) if self.is(Wrong::LimitUnderOptional) => {
+                let most = self.limited(part, limit)?.most;
+                Some(between(1, self.raised(most, 1)))
+            }
+            Tree::Fixed(part, count) if self.is(Wrong::LimitInFixedArray) => {
+                let size = self.limited(part, limit)?;
+                let count = u128::from(*count);
+                let most = size.most.map(|most| self.product(most, count));
+                Some(between(self.product(size.least, count), most))
+            }
+            Tree::Named(slot) if self.is(Wrong::LimitThroughNewtype) => {
+                match schema.slots.get(*slot as usize) {
+                    Some(Slot::Newtype { terminal, .. }) => self.limited(terminal, limit),
+                    _ => None,
+                }
+            }
+            _ => None,
+        }
+    }
+
+    fn element(&mut self, tree: &Tree) -> Size {
+        let size = self.of(tree);
+        match self.layout == Layout::Aligned && self.is(Wrong::ElementsRounded) {
+            true => self.laid(size),
+            false => size,
+        }
+    }
+
+    /// A key and a value; the sum of their smallest is not looked at.
+    fn entry(&mut self, key: &Tree, value: &Tree) -> Size {
+        let any = between(0, None);
+        let key = self.element(key);
+        let value = match self.is(Wrong::ValueNotWorked) && key.most.is_none() {
+            true => any,
+            false => self.element(value),
+        };
+        let most = match (self.wrong, key.most, value.most) {
+            (Wrong::KeyAlone, most, _) | (Wrong::ValueAlone, _, most) => most,
+            (Wrong::EntryNotTested, Some(key), Some(value)) => Some(key + value),
+            (Wrong::EntryByProduct, Some(key), Some(value)) => Some(self.within(key + value, 14)),
+            (_, Some(key), Some(value)) => Some(self.sum(key, value)),
+            (Wrong::OneOfEntry, key, value) => key.or(value),
+            _ => None,
+        };
+        if self.is(Wrong::SmallestAdded) {
+            self.sum(key.least, value.least);
+        }
+        between(key.least + value.least, most)
+    }
+
+    /// So many elements at most.
+    fn up_to(&mut self, limit: u64, element: Size) -> Size {
+        let most = match self.wrong {
+            Wrong::LimitTimesSmallest => element.most.map(|_| element.least),
+            Wrong::OpenElementCut => element.most.or(Some(element.least)),
+            _ => element.most,
+        };
+        let least = match self.wrong {
+            Wrong::SmallestOfElements => 8 + element.least * u128::from(limit),
+            Wrong::FromNone => 0,
+            _ => 8,
+        };
+        if self.is(Wrong::SmallestMultiplied) {
+            self.product(element.least, limit.into());
+        }
+        let Some(most) = most else {
+            return between(least, None);
+        };
+        let groups = match self.wrong {
+            Wrong::OneGroup => 1,
+            Wrong::NoGroup => 0,
+            Wrong::GroupsOfNext => groups(limit + 1),
+            _ => groups(limit),
+        };
+        let count = limit.saturating_sub(self.unless(Wrong::OneElementLess, 0, 1));
+        let all = most * u128::from(count);
+        let all = match self.wrong {
+            Wrong::SumForProduct => self.within(all, 11),
+            Wrong::ProductWraps => self.within(all % (1 << 64), 14),
+            _ => self.within(all, 14),
+        };
+        let number = self.unless(Wrong::ProductForSum, 11, 14);
+        let most = self.within(8 * groups + all, number);
+        Size {
+            fixed: self.is(Wrong::LimitedFixed) && least == most,
+            ..between(least, Some(most))
         }
     }
 
@@ -369,7 +613,7 @@ impl Sizes<'_> {
     fn optional(&mut self, part: &Tree) -> Size {
         let size = self.part(part);
         let bit = self.unless(Wrong::OptionalWithoutBit, 1, 0);
-        let most = size.most.map(|most| bit + most);
+        let most = self.raised(size.most, bit);
         match self.wrong {
             Wrong::OptionalFromNone => between(0, most),
             Wrong::OptionalFromPart => between(1 + size.least, most),
@@ -384,16 +628,15 @@ impl Sizes<'_> {
             0 => self.unless(Wrong::FixedArrayOfNoneIsOne, 0, 1),
             count => count,
         };
+        let least = self.product(size.least, count);
         if size.fixed && !self.is(Wrong::FixedArrayNeverFixed) {
-            return fixed(size.least * count);
+            return fixed(least);
         }
         match self.wrong {
             Wrong::FixedArrayOnce => between(size.least, None),
-            Wrong::FixedArrayOfElement => between(size.least * count, size.most),
-            Wrong::FixedArrayHasLargest => {
-                between(size.least * count, size.most.map(|most| most * count))
-            }
-            _ => between(size.least * count, None),
+            Wrong::FixedArrayOfElement => between(least, size.most),
+            Wrong::FixedArrayHasLargest => between(least, size.most.map(|most| most * count)),
+            _ => between(least, None),
         }
     }
 
@@ -412,7 +655,7 @@ impl Sizes<'_> {
         };
         Size {
             fixed: self.is(Wrong::ResultFixed) && ok.fixed && ok == err,
-            ..between(bit + least, most.map(|most| bit + most))
+            ..between(self.sum(bit, least), self.raised(most, bit))
         }
     }
 
@@ -432,7 +675,11 @@ impl Sizes<'_> {
                 fixed(self.flags_bytes(slot) * self.unless(Wrong::FlagsInBytes, 8, 1))
             }
             Some(Slot::Newtype { inner, terminal }) => {
+                if !self.enter() {
+                    return any;
+                }
                 let size = self.of(self.unless(Wrong::NewtypeByInner, terminal, inner));
+                self.depth -= 1;
                 match self.is(Wrong::NewtypesRounded) {
                     true => self.laid(size),
                     false => size,
@@ -517,6 +764,16 @@ impl Sizes<'_> {
         }
         live.into_iter().chain(retired).max().unwrap_or(0)
     }
+}
+
+/// Groups of seven bits, at least one.
+fn groups(mut count: u64) -> u128 {
+    let mut groups = 1;
+    while count >= 128 {
+        count /= 128;
+        groups += 1;
+    }
+    groups
 }
 
 /// Bits of a primitive, by its number in an image; Bool and Void aside.

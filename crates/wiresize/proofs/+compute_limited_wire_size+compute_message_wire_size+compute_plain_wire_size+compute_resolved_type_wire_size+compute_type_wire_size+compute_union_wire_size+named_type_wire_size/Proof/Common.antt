@@ -1,0 +1,154 @@
+-- The measures of the cycle, and what each member may rely on at its own.
+use Prim.Native.Nat.{ℕ, _<_}
+use borrow.Fn.Kinds.{In}
+use Rattle.reader.specs.Reading.{schemaOf}
+use Rattle.settling.specs.Steps.{frameOf}
+use Rattle.wiresize.proofs.Measure.{typeLeft, nameLeft, elementLeft, plainLeft, fieldLeft, bodyLeft}
+use borrow.Fn.PlainCycle.{Measures, is, falls, and}
+use Rattle.wiresize.proofs.compute_limited_wire_size.Reads as compute-limited-wire-size
+use Rattle.wiresize.proofs.compute_limited_wire_size.Kinds as compute-limited-wire-size-kinds
+use Rattle.wiresize.proofs.compute_plain_wire_size.Reads as compute-plain-wire-size
+use Rattle.wiresize.proofs.compute_plain_wire_size.Kinds as compute-plain-wire-size-kinds
+use Rattle.wiresize.proofs.compute_message_wire_size.Reads as compute-message-wire-size
+use Rattle.wiresize.proofs.compute_message_wire_size.Kinds as compute-message-wire-size-kinds
+use Rattle.wiresize.proofs.compute_resolved_type_wire_size.Reads as compute-resolved-type-wire-size
+use Rattle.wiresize.proofs.compute_resolved_type_wire_size.Kinds as compute-resolved-type-wire-size-kinds
+use Rattle.wiresize.proofs.compute_type_wire_size.Reads as compute-type-wire-size
+use Rattle.wiresize.proofs.compute_type_wire_size.Kinds as compute-type-wire-size-kinds
+use Rattle.wiresize.proofs.compute_union_wire_size.Reads as compute-union-wire-size
+use Rattle.wiresize.proofs.compute_union_wire_size.Kinds as compute-union-wire-size-kinds
+use Rattle.wiresize.proofs.named_type_wire_size.Reads as named-type-wire-size
+use Rattle.wiresize.proofs.named_type_wire_size.Kinds as named-type-wire-size-kinds
+
+abbrev pub μ-compute-limited-wire-size : Measures 4 compute-limited-wire-size-kinds.ps ℕ
+μ-compute-limited-wire-size κs a = elementLeft (a .1 .1 .1 .1 .1 .0 .now)
+
+abbrev pub μ-compute-plain-wire-size : Measures 4 compute-plain-wire-size-kinds.ps ℕ
+μ-compute-plain-wire-size κs a = plainLeft (a .1 .1 .1 .1 .1 .0 .now)
+
+abbrev pub μ-compute-message-wire-size : Measures 4 compute-message-wire-size-kinds.ps ℕ
+μ-compute-message-wire-size κs a = bodyLeft (a .1 .1 .1 .1 .1 .0 .now)
+
+abbrev pub μ-compute-resolved-type-wire-size : Measures 4 compute-resolved-type-wire-size-kinds.ps ℕ
+μ-compute-resolved-type-wire-size κs a = typeLeft (a .0 .now) (frameOf (a .1 .1 .0)) (a .1 .1 .1 .1 .0) (a .1 .1 .1 .1 .1 .0 .now)
+
+abbrev pub μ-compute-type-wire-size : Measures 4 compute-type-wire-size-kinds.ps ℕ
+μ-compute-type-wire-size κs a = fieldLeft (a .1 .1 .1 .1 .1 .0 .now)
+
+abbrev pub μ-compute-union-wire-size : Measures 4 compute-union-wire-size-kinds.ps ℕ
+μ-compute-union-wire-size κs a = bodyLeft (a .1 .1 .1 .1 .1 .0 .now)
+
+abbrev pub μ-named-type-wire-size : Measures 4 named-type-wire-size-kinds.ps ℕ
+μ-named-type-wire-size κs a = nameLeft (schemaOf (a .1 .1 .0 .edition) (a .0 .now)) (a .1 .1 .1 .1 .0) (a .1 .1 .1 .1 .1 .0 .now)
+
+abbrev pub compute-limited-wire-size-at : ℕ → In 4 compute-limited-wire-size-kinds.ps
+compute-limited-wire-size-at t =
+    and
+    4
+    compute-limited-wire-size-kinds.ps
+    (is 4 compute-limited-wire-size-kinds.ps μ-compute-limited-wire-size t)
+    compute-limited-wire-size.Pre
+
+abbrev pub compute-limited-wire-size-below : ℕ → In 4 compute-limited-wire-size-kinds.ps
+compute-limited-wire-size-below t =
+    and
+    4
+    compute-limited-wire-size-kinds.ps
+    (falls 4 compute-limited-wire-size-kinds.ps _<_ μ-compute-limited-wire-size t)
+    compute-limited-wire-size.Pre
+
+abbrev pub compute-plain-wire-size-at : ℕ → In 4 compute-plain-wire-size-kinds.ps
+compute-plain-wire-size-at t =
+    and
+    4
+    compute-plain-wire-size-kinds.ps
+    (is 4 compute-plain-wire-size-kinds.ps μ-compute-plain-wire-size t)
+    compute-plain-wire-size.Pre
+
+abbrev pub compute-plain-wire-size-below : ℕ → In 4 compute-plain-wire-size-kinds.ps
+compute-plain-wire-size-below t =
+    and
+    4
+    compute-plain-wire-size-kinds.ps
+    (falls 4 compute-plain-wire-size-kinds.ps _<_ μ-compute-plain-wire-size t)
+    compute-plain-wire-size.Pre
+
+abbrev pub compute-message-wire-size-at : ℕ → In 4 compute-message-wire-size-kinds.ps
+compute-message-wire-size-at t =
+    and
+    4
+    compute-message-wire-size-kinds.ps
+    (is 4 compute-message-wire-size-kinds.ps μ-compute-message-wire-size t)
+    compute-message-wire-size.Pre
+
+abbrev pub compute-message-wire-size-below : ℕ → In 4 compute-message-wire-size-kinds.ps
+compute-message-wire-size-below t =
+    and
+    4
+    compute-message-wire-size-kinds.ps
+    (falls 4 compute-message-wire-size-kinds.ps _<_ μ-compute-message-wire-size t)
+    compute-message-wire-size.Pre
+
+abbrev pub compute-resolved-type-wire-size-at : ℕ → In 4 compute-resolved-type-wire-size-kinds.ps
+compute-resolved-type-wire-size-at t =
+    and
+    4
+    compute-resolved-type-wire-size-kinds.ps
+    (is 4 compute-resolved-type-wire-size-kinds.ps μ-compute-resolved-type-wire-size t)
+    compute-resolved-type-wire-size.Pre
+
+abbrev pub compute-resolved-type-wire-size-below : ℕ → In 4 compute-resolved-type-wire-size-kinds.ps
+compute-resolved-type-wire-size-below t =
+    and
+    4
+    compute-resolved-type-wire-size-kinds.ps
+    (falls 4 compute-resolved-type-wire-size-kinds.ps _<_ μ-compute-resolved-type-wire-size t)
+    compute-resolved-type-wire-size.Pre
+
+abbrev pub compute-type-wire-size-at : ℕ → In 4 compute-type-wire-size-kinds.ps
+compute-type-wire-size-at t =
+    and
+    4
+    compute-type-wire-size-kinds.ps
+    (is 4 compute-type-wire-size-kinds.ps μ-compute-type-wire-size t)
+    compute-type-wire-size.Pre
+
+abbrev pub compute-type-wire-size-below : ℕ → In 4 compute-type-wire-size-kinds.ps
+compute-type-wire-size-below t =
+    and
+    4
+    compute-type-wire-size-kinds.ps
+    (falls 4 compute-type-wire-size-kinds.ps _<_ μ-compute-type-wire-size t)
+    compute-type-wire-size.Pre
+
+abbrev pub compute-union-wire-size-at : ℕ → In 4 compute-union-wire-size-kinds.ps
+compute-union-wire-size-at t =
+    and
+    4
+    compute-union-wire-size-kinds.ps
+    (is 4 compute-union-wire-size-kinds.ps μ-compute-union-wire-size t)
+    compute-union-wire-size.Pre
+
+abbrev pub compute-union-wire-size-below : ℕ → In 4 compute-union-wire-size-kinds.ps
+compute-union-wire-size-below t =
+    and
+    4
+    compute-union-wire-size-kinds.ps
+    (falls 4 compute-union-wire-size-kinds.ps _<_ μ-compute-union-wire-size t)
+    compute-union-wire-size.Pre
+
+abbrev pub named-type-wire-size-at : ℕ → In 4 named-type-wire-size-kinds.ps
+named-type-wire-size-at t =
+    and
+    4
+    named-type-wire-size-kinds.ps
+    (is 4 named-type-wire-size-kinds.ps μ-named-type-wire-size t)
+    named-type-wire-size.Pre
+
+abbrev pub named-type-wire-size-below : ℕ → In 4 named-type-wire-size-kinds.ps
+named-type-wire-size-below t =
+    and
+    4
+    named-type-wire-size-kinds.ps
+    (falls 4 named-type-wire-size-kinds.ps _<_ μ-named-type-wire-size t)
+    named-type-wire-size.Pre
