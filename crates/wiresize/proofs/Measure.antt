@@ -41,12 +41,19 @@ plainLeft w = (unmarked w * 1024 + 850) * 131072
 unfoldable pub fieldLeft : List Bool → ℕ
 fieldLeft w = (unmarked w * 1024 + 900) * 131072
 
+unfoldable pub variantsLeft : List Bool → ℕ
+variantsLeft w = (unmarked w * 1024 + 950) * 131072
+
 unfoldable pub bodyLeft : List Bool → ℕ
 bodyLeft w = (unmarked w * 1024 + 1000) * 131072
 
-pub field-in-body : (w : List Bool) → fieldLeft w < bodyLeft w
-unfolding fieldLeft bodyLeft
-field-in-body w = omega arith
+pub field-in-variants : (w : List Bool) → fieldLeft w < variantsLeft w
+unfolding fieldLeft variantsLeft
+field-in-variants w = omega arith
+
+pub variants-in-body : (w : List Bool) → variantsLeft w < bodyLeft w
+unfolding variantsLeft bodyLeft
+variants-in-body w = omega arith
 
 module _ (s starts : List ℕ) (f : Frame) (rows : List ℕ) (w : List Bool) (ready : Ready s starts f rows w) where
   rank-small : (t : Tree) → typeRank (schemaOf (f .edition) s) t ≤ 514

@@ -5,8 +5,8 @@ use mathlib.Core.List.{List, [], _∷_}
 use mathlib.Core.Bool.{Bool, true, false}
 use native.Mathlib.Omega.{arith}
 use lib.ListN.{length}
-use Rattle.number.specs.Grammar.{many, counted, done, below, read}
-use Rattle.number.proofs.Reading.{Front, counted-on, many-length}
+use Rattle.number.specs.Grammar.{Grammar, give, _>>=_, many, counted, done, below, read}
+use Rattle.number.proofs.Reading.{Front, read-bind, then-on, counted-on, many-length}
 use Rattle.slot.specs.Field.{Field, fieldAt, fieldsAt}
 use Rattle.slot.specs.declared.Edition.{Edition}
 use Rattle.image.specs.Schema.{Schema}
@@ -23,7 +23,8 @@ use Rattle.sizes.specs.Names.{State}
 use Rattle.sizes.specs.Steps.{over-not}
 use Rattle.total.specs.Totals.{sizeOf, totalOf}
 use Rattle.wiresize.specs.Rows.{RowsHold}
-use Rattle.wiresize.specs.Asked.{resolver}
+use Rattle.wiresize.specs.declared.Varied.{Varied}
+use Rattle.wiresize.specs.Asked.{WorksOut, Varies, extremesIn, lastIn, resolver}
 use Rattle.wiresize.proofs.Fields.{none-left, first-of, same-thing, fields-behind, FieldsLeft, fields-start, fields-end, fields-sum}
 
 pub clash : {b c : Bool} → b ≡ true → b ≡ c → c ≡ false → ⊥
@@ -66,19 +67,29 @@ module _ (L : Layout) (s : List ℕ) (f : Frame) (rows : List ℕ) (w : List Boo
   abbrev pub Whole : List (List Field) → ℕ → Type 0
   Whole vs e = read (many count (fieldsAt (f .edition) (f .names))) s first ≡ done vs e
 
-  -- the variants from `here` on widen the extremes to those of all variants
-  pub record VariantsLeft (left here : ℕ) (extremes : Size) : Type 0 where
+  -- the variants from `here` on widen the extremes to those of all variants; one alone stands there, or was read last
+  pub record VariantsLeft (left here : ℕ) (extremes last : Size) : Type 0 where
     pub variants : List (List Field)
     pub end : ℕ
     pub reads : read (many left (fieldsAt (f .edition) (f .names))) s here ≡ done variants end
     pub widens : (vs : List (List Field)) (e : ℕ) → Whole vs e → (st : State) → RowsHold S st rows
         → addVariants L (resolver L S st w) extremes variants ≡ addVariants L (resolver L S st w) (Bounded mark 0) vs
+    pub most : left ≤ count
+    pub place : count ≡ 1 → 0 < left → here ≡ first
+    pub alone : count ≡ 1 → left ≤ 0 → WorksOut L (fieldsAt (f .edition) (f .names)) (fieldsSize L) s f rows w first (Sized last)
 
-  pub variants-start : (vs : List (List Field)) (e : ℕ) → Whole vs e → VariantsLeft count first (Bounded mark 0)
-  variants-start vs e q =
-      record { variants = vs; end = e; reads = q; widens = λ xs d p st H. ap (addVariants L (resolver L S st w) (Bounded mark 0)) (same-thing q p .0) }
+  pub variants-start : (vs : List (List Field)) (e : ℕ) → Whole vs e → (last : Size) → VariantsLeft count first (Bounded mark 0) last
+  variants-start vs e q last = record {
+    variants = vs;
+    end = e;
+    reads = q;
+    widens = λ xs d p st H. ap (addVariants L (resolver L S st w) (Bounded mark 0)) (same-thing q p .0);
+    most = omega arith;
+    place = λ c h. refl;
+    alone = λ c h. absurd (omega arith);
+  }
 
-  module _ {left here : ℕ} {extremes : Size} (l : VariantsLeft left here extremes) where
+  module _ {left here : ℕ} {extremes last : Size} (l : VariantsLeft left here extremes last) where
     module _ (h : 0 < left) where
       pub next-variant : Front (fieldsAt (f .edition) (f .names)) s (left - 1) here (l .variants) (l .end)
       next-variant = first-of (fieldsAt (f .edition) (f .names)) s left here h (l .variants) (l .end) (l .reads)
@@ -90,8 +101,14 @@ module _ (L : Layout) (s : List ℕ) (f : Frame) (rows : List ℕ) (w : List Boo
         pub variant-start : {total : List ℕ} → total ≡ totalOf (Size.Fixed 0) → FieldsLeft L s f rows w fields after fields after total
         variant-start i = fields-start L s f rows w fields after _ _ variant-fields i
 
+        -- the fields of one alone
+        lone-fields : count ≡ 1 → {fs : List Field} {e : ℕ} → read (fieldsAt (f .edition) (f .names)) s first ≡ done fs e
+            → read (many fields (fieldAt (f .edition) (f .names))) s after ≡ done fs e
+        lone-fields c {fs} {e} q =
+            fields-behind s (f .edition) (f .names) here b (subst (λ (p : ℕ). read (fieldsAt (f .edition) (f .names)) s p ≡ done fs e) (sym (l .place c h)) q)
+
         pub variant-turn : {more at : ℕ} {total : List ℕ} {z wider : Size} → FieldsLeft L s f rows w fields after more at total → more ≤ 0
-            → z ≡ sizeOf total → wider ≡ widened extremes z → VariantsLeft (left - 1) at wider
+            → z ≡ sizeOf total → wider ≡ widened extremes z → VariantsLeft (left - 1) at wider z
         variant-turn i m c d =
             let g = next-variant in
             let n = fields-end L s f rows w fields after i m _ _ variant-fields in
@@ -104,23 +121,60 @@ module _ (L : Layout) (s : List ℕ) (f : Frame) (rows : List ℕ) (w : List Boo
                   ∙ sym (ap (addVariants L (resolver L S st w) extremes) (g .whole)
                   ∙ extremes-on L _ extremes (g .first) (g .others) (fields-sum L s f rows w fields after i m _ _ variant-fields c st H))
                   ∙ l .widens vs e q st H;
+              most = omega (arith, l .most);
+              place = λ u p. absurd (omega (arith, l .most));
+              alone = λ u p. record { worked = λ fs e q st H. fields-sum L s f rows w fields after i m _ _ (lone-fields u q) c st H };
             }
 
         pub variant-over : (o : Operation) → ((fs : List Field) (e : ℕ) → read (many fields (fieldAt (f .edition) (f .names))) s after ≡ done fs e → (st : State) → RowsHold S st rows
-            → Over o ≡ fieldsSize L (resolver L S st w) fs) → (vs : List (List Field)) (e : ℕ) → Whole vs e → (st : State) → RowsHold S st rows
-            → Over o ≡ unionSize L (resolver L S st w) vs
-        variant-over o h′ vs e q st H =
-            let g = next-variant in
-            union-over L _ vs o (sym (l .widens vs e q st H) ∙ ap (addVariants L (resolver L S st w) extremes) (g .whole)
-            ∙ extremes-over L _ extremes (g .first) (g .others) o (h′ _ _ variant-fields st H))
+            → Over o ≡ fieldsSize L (resolver L S st w) fs) → Varies L count s f rows w first (Varied.Over o)
+        variant-over o k = record {
+          extremes = record {
+            worked = λ vs e q st H.
+                let g = next-variant in
+                sym (extremes-over L _ extremes (g .first) (g .others) o (k _ _ variant-fields st H))
+                ∙ sym (ap (addVariants L (resolver L S st w) extremes) (g .whole)) ∙ l .widens vs e q st H;
+          };
+          alone = λ u. record { worked = λ fs e q st H. k fs e (lone-fields u q) st H };
+        }
 
-    pub variants-end : 0 < count → left ≤ 0 → {r : Worked} → r ≡ limitedSum (raised 8 extremes) → (vs : List (List Field)) (e : ℕ) → Whole vs e → (st : State)
-        → RowsHold S st rows → r ≡ unionSize L (resolver L S st w) vs
-    variants-end c h q vs e p st H =
-        union-sized L _ vs (let z = many-length (fieldsAt (f .edition) (f .names)) s count first vs e p in omega arith)
-        (sym (l .widens vs e p st H) ∙ extremes-done L _ extremes (none-left (fieldsAt (f .edition) (f .names)) s left here h (l .variants) (l .end) (l .reads) .0)) q
+    pub variants-end : left ≤ 0 → Varies L count s f rows w first (Varied.Sized extremes last)
+    variants-end h = record {
+      extremes = record {
+        worked = λ vs e p st H.
+            sym (extremes-done L _ extremes (none-left (fieldsAt (f .edition) (f .names)) s left here h (l .variants) (l .end) (l .reads) .0)) ∙ l .widens vs e p st H;
+      };
+      alone = λ u. l .alone u h;
+    }
+
+-- one variant by itself
+pub one-variant : {A : Type 0} (g : Grammar A) (s : List ℕ) (at : ℕ) {x : A} {e : ℕ} → read g s at ≡ done x e → read (many 1 g) s at ≡ done (x ∷ []) e
+unfolding many read _>>=_
+one-variant g s at q = read-bind g (λ y. give (y ∷ [])) s at ∙ then-on (read g s at) _ q
+
+-- a message: the last of one
+pub message-told : (L : Layout) (s : List ℕ) (f : Frame) (rows : List ℕ) (w : List Bool) (at : ℕ) {r : Varied} → Varies L 1 s f rows w at r → {t : Worked} → lastIn r ≡ t
+    → WorksOut L (fieldsAt (f .edition) (f .names)) (fieldsSize L) s f rows w at t
+message-told L s f rows w at v e = record { worked = λ fs d q st H. sym e ∙ v .alone refl .worked fs d q st H }
 
 -- the variants behind their count
 pub variants-behind : (s : List ℕ) (ed : Edition) (names at : ℕ) {count first : ℕ} → below 65537 s at ≡ done count first → {vs : List (List Field)} {e : ℕ}
     → read (counted (fieldsAt ed names)) s at ≡ done vs e → read (many count (fieldsAt ed names)) s first ≡ done vs e
 variants-behind s ed names at b q = sym (counted-on (fieldsAt ed names) s at _ _ b) ∙ q
+
+-- a union: the extremes of all behind their count, and a tag
+module _ (L : Layout) (s : List ℕ) (f : Frame) (rows : List ℕ) (w : List Bool) (at : ℕ) {count first : ℕ} (b : below 65537 s at ≡ done count first) {r : Varied}
+    (v : Varies L count s f rows w first r) where
+  pub union-ended : {o : Operation} → r ≡ Varied.Over o → WorksOut L (counted (fieldsAt (f .edition) (f .names))) (unionSize L) s f rows w at (Over o)
+  union-ended e = record {
+    worked = λ vs d q st H. union-over L _ vs _ (sym (v .extremes .worked vs d (variants-behind s (f .edition) (f .names) at b q) st H) ∙ ap extremesIn e);
+  }
+
+  pub union-tagged : {x z : Size} → r ≡ Varied.Sized x z → 0 < count → {t : Worked} → t ≡ limitedSum (raised 8 x)
+      → WorksOut L (counted (fieldsAt (f .edition) (f .names))) (unionSize L) s f rows w at t
+  union-tagged e c k = record {
+    worked = λ vs d q st H.
+        let p = variants-behind s (f .edition) (f .names) at b q in
+        union-sized L _ vs (let n = many-length (fieldsAt (f .edition) (f .names)) s count first vs d p in omega arith)
+        (sym (v .extremes .worked vs d p st H) ∙ ap extremesIn e) k;
+  }

@@ -5,22 +5,25 @@ use mathlib.Core.List.{List}
 use mathlib.Core.Bool.{Bool, false}
 use mathlib.Core.Option.{Option, none, some}
 use lib.ListN.{length, getD}
-use Rattle.number.specs.Grammar.{Grammar, done, read}
+use Rattle.number.specs.Grammar.{Grammar, many, done, read}
+use Rattle.slot.specs.Field.{fieldsAt}
 use Rattle.image.specs.Schema.{Schema}
 use Rattle.image.specs.declared.Frame.{Frame}
 use Rattle.reader.specs.Reading.{schemaOf}
 use Rattle.reader.specs.Promise.{Promise}
 use Rattle.sizes.specs.declared.Layout.{Layout}
 use Rattle.sizes.specs.declared.Size.{Size}
+use Rattle.sizes.specs.declared.Size.the-variants.{Bounded}
 use Rattle.sizes.specs.declared.Worked.{Worked}
 use Rattle.sizes.specs.declared.Worked.the-variants.{Sized, Over}
-use Rattle.sizes.specs.Sizes.{largest, then, Resolver, elementSize, upTo}
+use Rattle.sizes.specs.Sizes.{largest, then, Resolver, elementSize, upTo, fieldsSize, mark, addVariants}
 use Rattle.sizes.specs.Names.{State, Working, nameSize}
 use Rattle.sizes.specs.Check.{ownSize}
 use Rattle.settling.specs.Steps.{elementAt}
 use Rattle.settling.specs.declared.Limited.{Limited}
 use Rattle.settling.specs.declared.Walked.{Walked}
 use Rattle.wiresize.specs.declared.Turned.{Turned}
+use Rattle.wiresize.specs.declared.Varied.{Varied}
 use Rattle.wiresize.specs.Rows.{RowsHold}
 
 -- the slots that are marked
@@ -57,6 +60,19 @@ pub record Walks (L : Layout) {A : Type 0} (g : Grammar A) (size : Resolver → 
 pub record Counts (L : Layout) (s : List ℕ) (f : Frame) (rows : List ℕ) (w : List Bool) (l : Limited) (r : Walked) : Type 0 where
   pub next : r .next ≡ l .next
   pub works : WorksOut L (elementAt (f .names) (l .kind)) (λ R e. then (elementSize R e) (λ z. upTo (l .most) (largest z))) s f rows w (l .body) (r .worked)
+
+-- variants that stand one behind the other: their extremes, and of one alone its size
+abbrev pub extremesIn : Varied → Worked
+extremesIn (Varied.Sized extremes last) = Sized extremes
+extremesIn (Varied.Over o) = Over o
+
+abbrev pub lastIn : Varied → Worked
+lastIn (Varied.Sized extremes last) = Sized last
+lastIn (Varied.Over o) = Over o
+
+pub record Varies (L : Layout) (count : ℕ) (s : List ℕ) (f : Frame) (rows : List ℕ) (w : List Bool) (at : ℕ) (r : Varied) : Type 0 where
+  pub extremes : WorksOut L (many count (fieldsAt (f .edition) (f .names))) (λ R. addVariants L R (Bounded mark 0)) s f rows w at (extremesIn r)
+  pub alone : count ≡ 1 → WorksOut L (fieldsAt (f .edition) (f .names)) (fieldsSize L) s f rows w at (lastIn r)
 
 pub record Names (L : Layout) (S : Schema) (rows : List ℕ) (w : List Bool) (id : ℕ) (r : Worked) : Type 0 where
   pub worked : (st : State) → RowsHold S st rows → r ≡ resolver L S st w id

@@ -16,19 +16,25 @@ use view::Part;
 ghost use mathlib.Core.Path.{_≡_};
 ghost use Prim.Native.Nat.{_+_, _*_, _<_, _≤_};
 ghost use lib.ListN.{length};
-ghost use Rattle.number.specs.Grammar.{counted};
+ghost use Rattle.number.specs.Grammar.{many, counted};
 ghost use Rattle.slot.specs.Field.{typeAt, fieldAt, fieldsAt};
 ghost use Rattle.reader.specs.Reading.{schemaOf};
 ghost use Rattle.reader.specs.Promise.{Promise};
 ghost use Rattle.sizes.specs.Sizes.{typeSize, fieldAlone, fieldsSize, unionSize};
 ghost use Rattle.settling.specs.Steps.{frameOf, elementAt, plainAt};
 ghost use Rattle.wiresize.specs.Rows.{rowAt};
-ghost use Rattle.wiresize.specs.Asked.{Asked, Ready, Walks, WorksOut, Counts, Names, Held, Owns, turnedAs};
+ghost use Rattle.wiresize.specs.Asked.{Asked, Ready, Walks, WorksOut, Counts, Varies, Names, Held, Owns, turnedAs};
 
 // What a row of the size table says of a name.
 pub enum Row {
     Known(Worked),
     None,
+}
+
+// What variants come to: their extremes, and the size of the last one.
+pub enum Varied {
+    Sized(Size, Size),
+    Over(Operation),
 }
 
 // A turn of a declared slot; Other is neither a message nor a union.
@@ -227,8 +233,58 @@ fn compute_limited_wire_size(
     }
 }
 
-// A message, from the count of its fields on. The layout is handed in beside the scope: read from it here, it would have the scope
-// taken apart for each field.
+// The fields of so many variants, one behind the other; those of a message are those of one. The first total above the limit ends variants
+// and fields together. The layout is handed in beside the scope: read from it here, it would have the scope taken apart for each field.
+fn compute_variants_wire_size(
+    image: &[u8],
+    starts: &[usize],
+    scope: Scope,
+    rows: &[u64],
+    at: usize,
+    working: &[bool; 512],
+    layout: Layout,
+    count: u64,
+) -> Varied
+    requires { ⌜ Asked (many count (fieldsAt (scope .edition) (scope .names))) (now image) (now starts) (frameOf scope) (now rows) (now working) at × (layout ≡ scope .layout) ⌝ }
+    ensures { λ r. ⌜ Varies (scope .layout) count (now (image .entry)) (frameOf scope) (now (rows .entry)) (now (working .entry)) at r ⌝ }
+{
+    // The smallest starts above any that a variant can have.
+    let mut extremes = Size::Bounded(18446744073709551615, 0);
+    let mut last = Size::Fixed(0);
+    let mut here = at;
+    let mut over = false;
+    let mut by = Operation::Sum;
+    let mut left = count;
+    'variants: while 0 < left {
+        let Ranged::Value(fields, after) = number::read_below(image, here, 65537) else {
+            return Varied::Over(Operation::Sum);
+        };
+        here = after;
+        let mut total = total::empty_total();
+        let mut more = fields;
+        while 0 < more {
+            let field = compute_type_wire_size(image, starts, scope, rows, here, working);
+            let alone = field.worked;
+            let worked = measures::lay(alone, layout);
+            if let Step::Over(operation) = total::add_field(&mut total, worked) {
+                over = true;
+                by = operation;
+                break 'variants;
+            }
+            here = field.next;
+            more -= 1;
+        }
+        last = total::total_size(total);
+        extremes = measures::widen(extremes, last);
+        left -= 1;
+    }
+    if over {
+        return Varied::Over(by);
+    }
+    Varied::Sized(extremes, last)
+}
+
+// A message, from the count of its fields on.
 fn compute_message_wire_size(
     image: &[u8],
     starts: &[usize],
@@ -241,26 +297,13 @@ fn compute_message_wire_size(
     requires { ⌜ Asked (fieldsAt (scope .edition) (scope .names)) (now image) (now starts) (frameOf scope) (now rows) (now working) at × (layout ≡ scope .layout) ⌝ }
     ensures { λ r. ⌜ WorksOut (scope .layout) (fieldsAt (scope .edition) (scope .names)) (fieldsSize (scope .layout)) (now (image .entry)) (frameOf scope) (now (rows .entry)) (now (working .entry)) at r ⌝ }
 {
-    let Ranged::Value(count, first) = number::read_below(image, at, 65537) else {
-        return Worked::Over(Operation::Sum);
-    };
-    let mut total = total::empty_total();
-    let mut here = first;
-    let mut left = count;
-    while 0 < left {
-        let field = compute_type_wire_size(image, starts, scope, rows, here, working);
-        let alone = field.worked;
-        let worked = measures::lay(alone, layout);
-        if let Step::Over(by) = total::add_field(&mut total, worked) {
-            return Worked::Over(by);
-        }
-        here = field.next;
-        left -= 1;
+    match compute_variants_wire_size(image, starts, scope, rows, at, working, layout, 1) {
+        Varied::Sized(_, last) => Worked::Sized(last),
+        Varied::Over(by) => Worked::Over(by),
     }
-    Worked::Sized(total::total_size(total))
 }
 
-// A union, from the count of its variants on. The first total above the limit ends variants and fields together.
+// A union, from the count of its variants on.
 fn compute_union_wire_size(
     image: &[u8],
     starts: &[usize],
@@ -279,38 +322,10 @@ fn compute_union_wire_size(
     if count == 0 {
         return Worked::Sized(Size::Bounded(8, 8));
     }
-    // The smallest starts above any that a variant can have.
-    let mut extremes = Size::Bounded(18446744073709551615, 0);
-    let mut here = first;
-    let mut over = false;
-    let mut by = Operation::Sum;
-    let mut left = count;
-    'variants: while 0 < left {
-        let Ranged::Value(fields, after) = number::read_below(image, here, 65537) else {
-            return Worked::Over(Operation::Sum);
-        };
-        here = after;
-        let mut total = total::empty_total();
-        let mut more = fields;
-        while 0 < more {
-            let field = compute_type_wire_size(image, starts, scope, rows, here, working);
-            let alone = field.worked;
-            let worked = measures::lay(alone, layout);
-            if let Step::Over(operation) = total::add_field(&mut total, worked) {
-                over = true;
-                by = operation;
-                break 'variants;
-            }
-            here = field.next;
-            more -= 1;
-        }
-        extremes = measures::widen(extremes, total::total_size(total));
-        left -= 1;
+    match compute_variants_wire_size(image, starts, scope, rows, first, working, layout, count) {
+        Varied::Sized(extremes, _) => measures::tag(extremes),
+        Varied::Over(by) => Worked::Over(by),
     }
-    if over {
-        return Worked::Over(by);
-    }
-    measures::tag(extremes)
 }
 
 fn turn_from(worked: Worked) -> Turned

@@ -1,9 +1,10 @@
--- The measures of the cycle, and what each member may rely on at its own.
+-- The measures of the cycle, and what each member may rely on at its own and below another's.
 use Prim.Native.Nat.{ℕ, _<_}
-use borrow.Fn.Kinds.{In}
+use mathlib.Core.List.{List}
+use borrow.Fn.Kinds.{In, PK}
 use Rattle.reader.specs.Reading.{schemaOf}
 use Rattle.settling.specs.Steps.{frameOf}
-use Rattle.wiresize.proofs.Measure.{typeLeft, nameLeft, elementLeft, plainLeft, fieldLeft, bodyLeft}
+use Rattle.wiresize.proofs.Measure.{typeLeft, nameLeft, elementLeft, plainLeft, fieldLeft, variantsLeft, bodyLeft}
 use borrow.Fn.PlainCycle.{Measures, is, falls, and}
 use Rattle.wiresize.proofs.compute_limited_wire_size.Reads as compute-limited-wire-size
 use Rattle.wiresize.proofs.compute_limited_wire_size.Kinds as compute-limited-wire-size-kinds
@@ -17,6 +18,8 @@ use Rattle.wiresize.proofs.compute_type_wire_size.Reads as compute-type
 use Rattle.wiresize.proofs.compute_type_wire_size.Kinds as compute-type-wire-size-kinds
 use Rattle.wiresize.proofs.compute_union_wire_size.Reads as compute-union-wire-size
 use Rattle.wiresize.proofs.compute_union_wire_size.Kinds as compute-union-wire-size-kinds
+use Rattle.wiresize.proofs.compute_variants_wire_size.Reads as compute-variants-wire-size
+use Rattle.wiresize.proofs.compute_variants_wire_size.Kinds as compute-variants-wire-size-kinds
 use Rattle.wiresize.proofs.named_type_wire_size.Reads as named-type-wire-size
 use Rattle.wiresize.proofs.named_type_wire_size.Kinds as named-type-wire-size-kinds
 
@@ -38,117 +41,63 @@ abbrev pub μ-compute-type-wire-size : Measures 4 compute-type-wire-size-kinds.p
 abbrev pub μ-compute-union-wire-size : Measures 4 compute-union-wire-size-kinds.ps ℕ
 μ-compute-union-wire-size κs a = bodyLeft (a .1 .1 .1 .1 .1 .0 .now)
 
+abbrev pub μ-compute-variants-wire-size : Measures 4 compute-variants-wire-size-kinds.ps ℕ
+μ-compute-variants-wire-size κs a = variantsLeft (a .1 .1 .1 .1 .1 .0 .now)
+
 abbrev pub μ-named-type-wire-size : Measures 4 named-type-wire-size-kinds.ps ℕ
 μ-named-type-wire-size κs a = nameLeft (schemaOf (a .1 .1 .0 .edition) (a .0 .now)) (a .1 .1 .1 .1 .0) (a .1 .1 .1 .1 .1 .0 .now)
 
+-- what a member may rely on at its own measure, and below one that calls it
+abbrev at : (ps : List (PK 4)) → Measures 4 ps ℕ → In 4 ps → ℕ → In 4 ps
+at ps μ pre t = and 4 ps (is 4 ps μ t) pre
+
+abbrev below : (ps : List (PK 4)) → Measures 4 ps ℕ → In 4 ps → ℕ → In 4 ps
+below ps μ pre t = and 4 ps (falls 4 ps _<_ μ t) pre
+
 abbrev pub compute-limited-wire-size-at : ℕ → In 4 compute-limited-wire-size-kinds.ps
-compute-limited-wire-size-at t =
-    and
-    4
-    compute-limited-wire-size-kinds.ps
-    (is 4 compute-limited-wire-size-kinds.ps μ-compute-limited-wire-size t)
-    compute-limited-wire-size.Pre
+compute-limited-wire-size-at = at compute-limited-wire-size-kinds.ps μ-compute-limited-wire-size compute-limited-wire-size.Pre
 
 abbrev pub compute-limited-wire-size-below : ℕ → In 4 compute-limited-wire-size-kinds.ps
-compute-limited-wire-size-below t =
-    and
-    4
-    compute-limited-wire-size-kinds.ps
-    (falls 4 compute-limited-wire-size-kinds.ps _<_ μ-compute-limited-wire-size t)
-    compute-limited-wire-size.Pre
+compute-limited-wire-size-below = below compute-limited-wire-size-kinds.ps μ-compute-limited-wire-size compute-limited-wire-size.Pre
 
 abbrev pub compute-plain-wire-size-at : ℕ → In 4 compute-plain-wire-size-kinds.ps
-compute-plain-wire-size-at t =
-    and
-    4
-    compute-plain-wire-size-kinds.ps
-    (is 4 compute-plain-wire-size-kinds.ps μ-compute-plain-wire-size t)
-    compute-plain-wire-size.Pre
+compute-plain-wire-size-at = at compute-plain-wire-size-kinds.ps μ-compute-plain-wire-size compute-plain-wire-size.Pre
 
 abbrev pub compute-plain-wire-size-below : ℕ → In 4 compute-plain-wire-size-kinds.ps
-compute-plain-wire-size-below t =
-    and
-    4
-    compute-plain-wire-size-kinds.ps
-    (falls 4 compute-plain-wire-size-kinds.ps _<_ μ-compute-plain-wire-size t)
-    compute-plain-wire-size.Pre
+compute-plain-wire-size-below = below compute-plain-wire-size-kinds.ps μ-compute-plain-wire-size compute-plain-wire-size.Pre
 
 abbrev pub compute-message-wire-size-at : ℕ → In 4 compute-message-wire-size-kinds.ps
-compute-message-wire-size-at t =
-    and
-    4
-    compute-message-wire-size-kinds.ps
-    (is 4 compute-message-wire-size-kinds.ps μ-compute-message-wire-size t)
-    compute-message-wire-size.Pre
+compute-message-wire-size-at = at compute-message-wire-size-kinds.ps μ-compute-message-wire-size compute-message-wire-size.Pre
 
 abbrev pub compute-message-wire-size-below : ℕ → In 4 compute-message-wire-size-kinds.ps
-compute-message-wire-size-below t =
-    and
-    4
-    compute-message-wire-size-kinds.ps
-    (falls 4 compute-message-wire-size-kinds.ps _<_ μ-compute-message-wire-size t)
-    compute-message-wire-size.Pre
+compute-message-wire-size-below = below compute-message-wire-size-kinds.ps μ-compute-message-wire-size compute-message-wire-size.Pre
 
 abbrev pub compute-resolved-type-wire-size-at : ℕ → In 4 compute-resolved-type-wire-size-kinds.ps
-compute-resolved-type-wire-size-at t =
-    and
-    4
-    compute-resolved-type-wire-size-kinds.ps
-    (is 4 compute-resolved-type-wire-size-kinds.ps μ-compute-resolved-type-wire-size t)
-    compute-resolved-type-wire-size.Pre
+compute-resolved-type-wire-size-at = at compute-resolved-type-wire-size-kinds.ps μ-compute-resolved-type-wire-size compute-resolved-type-wire-size.Pre
 
 abbrev pub compute-resolved-type-wire-size-below : ℕ → In 4 compute-resolved-type-wire-size-kinds.ps
-compute-resolved-type-wire-size-below t =
-    and
-    4
-    compute-resolved-type-wire-size-kinds.ps
-    (falls 4 compute-resolved-type-wire-size-kinds.ps _<_ μ-compute-resolved-type-wire-size t)
-    compute-resolved-type-wire-size.Pre
+compute-resolved-type-wire-size-below = below compute-resolved-type-wire-size-kinds.ps μ-compute-resolved-type-wire-size compute-resolved-type-wire-size.Pre
 
 abbrev pub compute-type-wire-size-at : ℕ → In 4 compute-type-wire-size-kinds.ps
-compute-type-wire-size-at t =
-    and
-    4
-    compute-type-wire-size-kinds.ps
-    (is 4 compute-type-wire-size-kinds.ps μ-compute-type-wire-size t)
-    compute-type-wire-size.Pre
+compute-type-wire-size-at = at compute-type-wire-size-kinds.ps μ-compute-type-wire-size compute-type-wire-size.Pre
 
 abbrev pub compute-type-wire-size-below : ℕ → In 4 compute-type-wire-size-kinds.ps
-compute-type-wire-size-below t =
-    and
-    4
-    compute-type-wire-size-kinds.ps
-    (falls 4 compute-type-wire-size-kinds.ps _<_ μ-compute-type-wire-size t)
-    compute-type-wire-size.Pre
+compute-type-wire-size-below = below compute-type-wire-size-kinds.ps μ-compute-type-wire-size compute-type-wire-size.Pre
 
 abbrev pub compute-union-wire-size-at : ℕ → In 4 compute-union-wire-size-kinds.ps
-compute-union-wire-size-at t =
-    and
-    4
-    compute-union-wire-size-kinds.ps
-    (is 4 compute-union-wire-size-kinds.ps μ-compute-union-wire-size t)
-    compute-union-wire-size.Pre
+compute-union-wire-size-at = at compute-union-wire-size-kinds.ps μ-compute-union-wire-size compute-union-wire-size.Pre
 
 abbrev pub compute-union-wire-size-below : ℕ → In 4 compute-union-wire-size-kinds.ps
-compute-union-wire-size-below t =
-    and
-    4
-    compute-union-wire-size-kinds.ps
-    (falls 4 compute-union-wire-size-kinds.ps _<_ μ-compute-union-wire-size t)
-    compute-union-wire-size.Pre
+compute-union-wire-size-below = below compute-union-wire-size-kinds.ps μ-compute-union-wire-size compute-union-wire-size.Pre
+
+abbrev pub compute-variants-wire-size-at : ℕ → In 4 compute-variants-wire-size-kinds.ps
+compute-variants-wire-size-at = at compute-variants-wire-size-kinds.ps μ-compute-variants-wire-size compute-variants-wire-size.Pre
+
+abbrev pub compute-variants-wire-size-below : ℕ → In 4 compute-variants-wire-size-kinds.ps
+compute-variants-wire-size-below = below compute-variants-wire-size-kinds.ps μ-compute-variants-wire-size compute-variants-wire-size.Pre
 
 abbrev pub named-type-wire-size-at : ℕ → In 4 named-type-wire-size-kinds.ps
-named-type-wire-size-at t =
-    and
-    4
-    named-type-wire-size-kinds.ps
-    (is 4 named-type-wire-size-kinds.ps μ-named-type-wire-size t)
-    named-type-wire-size.Pre
+named-type-wire-size-at = at named-type-wire-size-kinds.ps μ-named-type-wire-size named-type-wire-size.Pre
 
 abbrev pub named-type-wire-size-below : ℕ → In 4 named-type-wire-size-kinds.ps
-named-type-wire-size-below t =
-    and
-    4
-    named-type-wire-size-kinds.ps
-    (falls 4 named-type-wire-size-kinds.ps _<_ μ-named-type-wire-size t)
-    named-type-wire-size.Pre
+named-type-wire-size-below = below named-type-wire-size-kinds.ps μ-named-type-wire-size named-type-wire-size.Pre

@@ -4,11 +4,11 @@ use mathlib.Core.Path.{refl}
 use Prim.Native.Nat.{ℕ}
 use Rattle.view.proofs.Places.{at-place}
 use Rattle.wiresize.proofs.compute_limited_wire_size.Reads as compute-limited-wire-size
-use Rattle.wiresize.proofs.+compute_limited_wire_size+compute_message_wire_size+compute_plain_wire_size+compute_resolved_type_wire_size+compute_type_wire_size+compute_union_wire_size+named_type_wire_size.Lts-compute_limited_wire_size as compute-limited-wire-size-lts
+use Rattle.wiresize.proofs.+compute_limited_wire_size+compute_message_wire_size+compute_plain_wire_size+compute_resolved_type_wire_size+compute_type_wire_size+compute_union_wire_size+compute_variants_wire_size+named_type_wire_size.Lts-compute_limited_wire_size as compute-limited-wire-size-lts
 use Rattle.measures.proofs.entry_wire_size.Reads as entry-wire-size-reads
 use Rattle.measures.proofs.limited_wire_size.Reads as limited-wire-size-reads
 use Rattle.wiresize.proofs.compute_resolved_type_wire_size.Reads as compute-resolved-type-wire-size
-use Rattle.wiresize.proofs.+compute_limited_wire_size+compute_message_wire_size+compute_plain_wire_size+compute_resolved_type_wire_size+compute_type_wire_size+compute_union_wire_size+named_type_wire_size.Proof.Common.{compute-limited-wire-size-at, compute-resolved-type-wire-size-below}
+use Rattle.wiresize.proofs.+compute_limited_wire_size+compute_message_wire_size+compute_plain_wire_size+compute_resolved_type_wire_size+compute_type_wire_size+compute_union_wire_size+compute_variants_wire_size+named_type_wire_size.Proof.Common.{compute-limited-wire-size-at, compute-resolved-type-wire-size-below}
 use Rattle.settling.proofs.Elements.{first-of, item-sized, entry-over, entry-sized, counted-as, counted-over}
 use Rattle.wiresize.proofs.Measure.{type-in-element}
 

@@ -3,11 +3,11 @@ use native.Mathlib.Omega.{arith}
 use mathlib.Core.Path.{_∙_}
 use Prim.Native.Nat.{ℕ}
 use Rattle.wiresize.proofs.compute_type_wire_size.Reads as compute-type-wire-size
-use Rattle.wiresize.proofs.+compute_limited_wire_size+compute_message_wire_size+compute_plain_wire_size+compute_resolved_type_wire_size+compute_type_wire_size+compute_union_wire_size+named_type_wire_size.Lts-compute_type_wire_size as compute-type-wire-size-lts
+use Rattle.wiresize.proofs.+compute_limited_wire_size+compute_message_wire_size+compute_plain_wire_size+compute_resolved_type_wire_size+compute_type_wire_size+compute_union_wire_size+compute_variants_wire_size+named_type_wire_size.Lts-compute_type_wire_size as compute-type-wire-size-lts
 use Rattle.settling.proofs.settle.Reads as settle-reads
 use Rattle.wiresize.proofs.compute_plain_wire_size.Reads as compute-plain-wire-size
 use Rattle.wiresize.proofs.named_type_wire_size.Reads as named-type-wire-size
-use Rattle.wiresize.proofs.+compute_limited_wire_size+compute_message_wire_size+compute_plain_wire_size+compute_resolved_type_wire_size+compute_type_wire_size+compute_union_wire_size+named_type_wire_size.Proof.Common.{compute-plain-wire-size-below, compute-type-wire-size-at, named-type-wire-size-below}
+use Rattle.wiresize.proofs.+compute_limited_wire_size+compute_message_wire_size+compute_plain_wire_size+compute_resolved_type_wire_size+compute_type_wire_size+compute_union_wire_size+compute_variants_wire_size+named_type_wire_size.Proof.Common.{compute-plain-wire-size-below, compute-type-wire-size-at, named-type-wire-size-below}
 use Rattle.settling.proofs.Settling.{is-settled, name-settled, at-settled}
 use Rattle.wiresize.proofs.Measure.{name-in-field, plain-in-field}
 

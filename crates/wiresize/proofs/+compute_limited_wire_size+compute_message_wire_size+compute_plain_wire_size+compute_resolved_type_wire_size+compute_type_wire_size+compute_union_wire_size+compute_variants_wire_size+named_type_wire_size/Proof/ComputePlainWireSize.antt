@@ -4,12 +4,12 @@ use mathlib.Core.Path.{sym, _∙_}
 use Rattle.view.proofs.Places.{at-place}
 use Prim.Native.Nat.{ℕ}
 use Rattle.wiresize.proofs.compute_plain_wire_size.Reads as compute-plain-wire-size
-use Rattle.wiresize.proofs.+compute_limited_wire_size+compute_message_wire_size+compute_plain_wire_size+compute_resolved_type_wire_size+compute_type_wire_size+compute_union_wire_size+named_type_wire_size.Lts-compute_plain_wire_size as compute-plain-wire-size-lts
+use Rattle.wiresize.proofs.+compute_limited_wire_size+compute_message_wire_size+compute_plain_wire_size+compute_resolved_type_wire_size+compute_type_wire_size+compute_union_wire_size+compute_variants_wire_size+named_type_wire_size.Lts-compute_plain_wire_size as compute-plain-wire-size-lts
 use Rattle.settling.proofs.settle_plain.Reads as settle-plain-reads
 use Rattle.settling.proofs.pass_limit.Reads as pass-limit-reads
 use Rattle.wiresize.proofs.compute_limited_wire_size.Reads as compute-limited-wire-size
 use Rattle.wiresize.proofs.compute_resolved_type_wire_size.Reads as compute-resolved-type-wire-size
-use Rattle.wiresize.proofs.+compute_limited_wire_size+compute_message_wire_size+compute_plain_wire_size+compute_resolved_type_wire_size+compute_type_wire_size+compute_union_wire_size+named_type_wire_size.Proof.Common.{compute-limited-wire-size-below, compute-plain-wire-size-at, compute-resolved-type-wire-size-below}
+use Rattle.wiresize.proofs.+compute_limited_wire_size+compute_message_wire_size+compute_plain_wire_size+compute_resolved_type_wire_size+compute_type_wire_size+compute_union_wire_size+compute_variants_wire_size+named_type_wire_size.Proof.Common.{compute-limited-wire-size-below, compute-plain-wire-size-at, compute-resolved-type-wire-size-below}
 use Rattle.settling.proofs.Elements.{is-told, type-told, limited-told, limited-sized}
 use Rattle.wiresize.proofs.Measure.{element-in-plain, type-in-plain}
 
