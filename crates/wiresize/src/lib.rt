@@ -170,12 +170,12 @@ fn compute_type_wire_size(
             let worked = named_type_wire_size(image, starts, scope, rows, id, working);
             Walked { worked, next }
         }
-        Settled::At(p) => compute_plain_wire_size(image, starts, scope, rows, p, working),
+        Settled::At(p) => plain_size(image, starts, scope, rows, p, working),
     }
 }
 
 // A field that neither Varint nor ZigZag governs, from its type on.
-fn compute_plain_wire_size(
+fn plain_size(
     image: &[u8],
     starts: &[usize],
     scope: Scope,
@@ -192,14 +192,12 @@ fn compute_plain_wire_size(
             let field = compute_resolved_type_wire_size(image, starts, scope, rows, at, working);
             settling::pass_limit(image, field, scope)
         }
-        Plain::Limited(elements) => {
-            compute_limited_wire_size(image, starts, scope, rows, elements, working)
-        }
+        Plain::Limited(elements) => { limited_size(image, starts, scope, rows, elements, working) }
     }
 }
 
 // The elements that a field's limit bears on: of a map's, the key first, then the value in every case.
-fn compute_limited_wire_size(
+fn limited_size(
     image: &[u8],
     starts: &[usize],
     scope: Scope,
@@ -235,7 +233,7 @@ fn compute_limited_wire_size(
 
 // The fields of so many variants, one behind the other; those of a message are those of one. The first total above the limit ends variants
 // and fields together. The layout is handed in beside the scope: read from it here, it would have the scope taken apart for each field.
-fn compute_variants_wire_size(
+fn variants_size(
     image: &[u8],
     starts: &[usize],
     scope: Scope,
@@ -297,7 +295,7 @@ fn compute_message_wire_size(
     requires { ⌜ Asked (fieldsAt (scope .edition) (scope .names)) (now image) (now starts) (frameOf scope) (now rows) (now working) at × (layout ≡ scope .layout) ⌝ }
     ensures { λ r. ⌜ WorksOut (scope .layout) (fieldsAt (scope .edition) (scope .names)) (fieldsSize (scope .layout)) (now (image .entry)) (frameOf scope) (now (rows .entry)) (now (working .entry)) at r ⌝ }
 {
-    match compute_variants_wire_size(image, starts, scope, rows, at, working, layout, 1) {
+    match variants_size(image, starts, scope, rows, at, working, layout, 1) {
         Varied::Sized(_, last) => Worked::Sized(last),
         Varied::Over(by) => Worked::Over(by),
     }
@@ -322,7 +320,7 @@ fn compute_union_wire_size(
     if count == 0 {
         return Worked::Sized(Size::Bounded(8, 8));
     }
-    match compute_variants_wire_size(image, starts, scope, rows, first, working, layout, count) {
+    match variants_size(image, starts, scope, rows, first, working, layout, count) {
         Varied::Sized(extremes, _) => measures::tag(extremes),
         Varied::Over(by) => Worked::Over(by),
     }

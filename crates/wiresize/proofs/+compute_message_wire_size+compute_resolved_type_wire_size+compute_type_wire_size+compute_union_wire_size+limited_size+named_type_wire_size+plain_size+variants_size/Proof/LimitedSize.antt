@@ -3,27 +3,27 @@ use native.Mathlib.Omega.{arith}
 use mathlib.Core.Path.{refl}
 use Prim.Native.Nat.{ℕ}
 use Rattle.view.proofs.Places.{at-place}
-use Rattle.wiresize.proofs.compute_limited_wire_size.Reads as compute-limited-wire-size
-use Rattle.wiresize.proofs.+compute_limited_wire_size+compute_message_wire_size+compute_plain_wire_size+compute_resolved_type_wire_size+compute_type_wire_size+compute_union_wire_size+compute_variants_wire_size+named_type_wire_size.Lts-compute_limited_wire_size as compute-limited-wire-size-lts
+use Rattle.wiresize.proofs.limited_size.Reads as limited-size
+use Rattle.wiresize.proofs.+compute_message_wire_size+compute_resolved_type_wire_size+compute_type_wire_size+compute_union_wire_size+limited_size+named_type_wire_size+plain_size+variants_size.Lts-limited_size as limited-size-lts
 use Rattle.measures.proofs.entry_wire_size.Reads as entry-wire-size-reads
 use Rattle.measures.proofs.limited_wire_size.Reads as limited-wire-size-reads
 use Rattle.wiresize.proofs.compute_resolved_type_wire_size.Reads as compute-resolved-type-wire-size
-use Rattle.wiresize.proofs.+compute_limited_wire_size+compute_message_wire_size+compute_plain_wire_size+compute_resolved_type_wire_size+compute_type_wire_size+compute_union_wire_size+compute_variants_wire_size+named_type_wire_size.Proof.Common.{compute-limited-wire-size-at, compute-resolved-type-wire-size-below}
+use Rattle.wiresize.proofs.+compute_message_wire_size+compute_resolved_type_wire_size+compute_type_wire_size+compute_union_wire_size+limited_size+named_type_wire_size+plain_size+variants_size.Proof.Common.{limited-size-at, compute-resolved-type-wire-size-below}
 use Rattle.settling.proofs.Elements.{first-of, item-sized, entry-over, entry-sized, counted-as, counted-over}
 use Rattle.wiresize.proofs.Measure.{type-in-element}
 
 module _ (t : ℕ) where
-  abbrev env : compute-limited-wire-size-lts.Claims
+  abbrev env : limited-size-lts.Claims
   env = (compute-resolved-type-wire-size-below t, compute-resolved-type-wire-size.Post, limited-wire-size-reads.Asked, limited-wire-size-reads.Learnt, entry-wire-size-reads.Asked, entry-wire-size-reads.Learnt)
 
-  compute-resolved-type-wire-size-requires : compute-limited-wire-size-lts.Need-compute-resolved-type-wire-size-requires env (compute-limited-wire-size-at t) compute-limited-wire-size.Post
+  compute-resolved-type-wire-size-requires : limited-size-lts.Need-compute-resolved-type-wire-size-requires env (limited-size-at t) limited-size.Post
   compute-resolved-type-wire-size-requires c κs =
       let start = c .before .before .before in
       let a = start .pre .1 in
       let f = first-of _ _ _ _ _ _ (a .reads) in
       (omega (arith, type-in-element _ _ _ _ _ (a .ready) (start .args .elements .body), start .pre .0), record { ready = a .ready; thing = f .type; end = f .middle; reads = f .here })
 
-  returns : compute-limited-wire-size-lts.Need-returns env (compute-limited-wire-size-at t) compute-limited-wire-size.Post
+  returns : limited-size-lts.Need-returns env (limited-size-at t) limited-size.Post
   returns c = record {
     next = refl;
     works = record {
@@ -33,7 +33,7 @@ module _ (t : ℕ) where
     };
   }
 
-  returns-2 : compute-limited-wire-size-lts.Need-returns-2 env (compute-limited-wire-size-at t) compute-limited-wire-size.Post
+  returns-2 : limited-size-lts.Need-returns-2 env (limited-size-at t) limited-size.Post
   returns-2 c = record {
     next = refl;
     works = record {
@@ -44,7 +44,7 @@ module _ (t : ℕ) where
     };
   }
 
-  compute-resolved-type-wire-size-requires-2 : compute-limited-wire-size-lts.Need-compute-resolved-type-wire-size-requires-2 env (compute-limited-wire-size-at t) compute-limited-wire-size.Post
+  compute-resolved-type-wire-size-requires-2 : limited-size-lts.Need-compute-resolved-type-wire-size-requires-2 env (limited-size-at t) limited-size.Post
   compute-resolved-type-wire-size-requires-2 c κs =
       let start = c .before .before .before .before .before .before .before .before .before in
       let a = start .pre .1 in
@@ -54,7 +54,7 @@ module _ (t : ℕ) where
       let n = first .ensures .next _ _ (f .here) _ (c .before .worked .given .1) in
       (omega (arith, type-in-element _ _ _ _ _ (a .ready) (first .result .next), start .pre .0), record { ready = a .ready; thing = _; end = _; reads = at-place _ _ (p .1) n })
 
-  returns-3 : compute-limited-wire-size-lts.Need-returns-3 env (compute-limited-wire-size-at t) compute-limited-wire-size.Post
+  returns-3 : limited-size-lts.Need-returns-3 env (limited-size-at t) limited-size.Post
   returns-3 c = record {
     next = refl;
     works = record {
@@ -69,6 +69,6 @@ module _ (t : ℕ) where
     };
   }
 
-  pub spec : {M : Type 1} → compute-limited-wire-size-lts.Closed env (compute-limited-wire-size-at t) compute-limited-wire-size.Post M
+  pub spec : {M : Type 1} → limited-size-lts.Closed env (limited-size-at t) limited-size.Post M
   spec =
-      compute-limited-wire-size-lts.spec env (compute-limited-wire-size-at t) compute-limited-wire-size.Post compute-resolved-type-wire-size-requires (λ c κs. search needs) returns (λ c. search needs) (λ c. search needs) returns-2 compute-resolved-type-wire-size-requires-2 (λ c κs. search needs) (λ c κs. search needs) returns-3
+      limited-size-lts.spec env (limited-size-at t) limited-size.Post compute-resolved-type-wire-size-requires (λ c κs. search needs) returns (λ c. search needs) (λ c. search needs) returns-2 compute-resolved-type-wire-size-requires-2 (λ c κs. search needs) (λ c κs. search needs) returns-3

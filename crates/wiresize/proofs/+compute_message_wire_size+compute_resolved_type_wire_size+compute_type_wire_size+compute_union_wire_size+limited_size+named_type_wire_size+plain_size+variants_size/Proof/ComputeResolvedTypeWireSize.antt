@@ -2,14 +2,14 @@ use borrow.Author.Needs.{needs}
 use native.Mathlib.Omega.{arith}
 use Prim.Native.Nat.{ℕ}
 use Rattle.wiresize.proofs.compute_resolved_type_wire_size.Reads as compute-resolved-type-wire-size
-use Rattle.wiresize.proofs.+compute_limited_wire_size+compute_message_wire_size+compute_plain_wire_size+compute_resolved_type_wire_size+compute_type_wire_size+compute_union_wire_size+compute_variants_wire_size+named_type_wire_size.Lts-compute_resolved_type_wire_size as compute-resolved-type-wire-size-lts
+use Rattle.wiresize.proofs.+compute_message_wire_size+compute_resolved_type_wire_size+compute_type_wire_size+compute_union_wire_size+limited_size+named_type_wire_size+plain_size+variants_size.Lts-compute_resolved_type_wire_size as compute-resolved-type-wire-size-lts
 use Rattle.tree.proofs.read_head.Reads as read-head-reads
 use Rattle.settling.proofs.close_one.Reads as close-one-reads
 use Rattle.settling.proofs.head_wire_size.Reads as head-wire-size-reads
 use Rattle.settling.proofs.join_sides.Reads as join-sides-reads
 use Rattle.settling.proofs.pass_type.Reads as pass-type-reads
 use Rattle.wiresize.proofs.named_type_wire_size.Reads as named-type-wire-size
-use Rattle.wiresize.proofs.+compute_limited_wire_size+compute_message_wire_size+compute_plain_wire_size+compute_resolved_type_wire_size+compute_type_wire_size+compute_union_wire_size+compute_variants_wire_size+named_type_wire_size.Proof.Common.{compute-resolved-type-wire-size-below, named-type-wire-size-below, compute-resolved-type-wire-size-at}
+use Rattle.wiresize.proofs.+compute_message_wire_size+compute_resolved_type_wire_size+compute_type_wire_size+compute_union_wire_size+limited_size+named_type_wire_size+plain_size+variants_size.Proof.Common.{compute-resolved-type-wire-size-below, named-type-wire-size-below, compute-resolved-type-wire-size-at}
 use mathlib.Core.Path.{_∙_}
 use Rattle.view.proofs.Places.{at-place}
 use Rattle.view.proofs.Onward.{goes-on}

@@ -2,14 +2,14 @@ use borrow.Author.Needs.{needs}
 use native.Mathlib.Omega.{arith}
 use Prim.Native.Nat.{ℕ}
 use Rattle.wiresize.proofs.named_type_wire_size.Reads as named-type-wire-size
-use Rattle.wiresize.proofs.+compute_limited_wire_size+compute_message_wire_size+compute_plain_wire_size+compute_resolved_type_wire_size+compute_type_wire_size+compute_union_wire_size+compute_variants_wire_size+named_type_wire_size.Lts-named_type_wire_size as named-type-wire-size-lts
+use Rattle.wiresize.proofs.+compute_message_wire_size+compute_resolved_type_wire_size+compute_type_wire_size+compute_union_wire_size+limited_size+named_type_wire_size+plain_size+variants_size.Lts-named_type_wire_size as named-type-wire-size-lts
 use Rattle.view.proofs.slot_part.Reads as slot-part-reads
 use Rattle.view.proofs.slot_inside.Reads as slot-inside-reads
 use Rattle.wiresize.proofs.known_size.Reads as known-size-reads
 use Rattle.wiresize.proofs.compute_message_wire_size.Reads as compute-message-wire-size
 use Rattle.wiresize.proofs.compute_resolved_type_wire_size.Reads as compute-resolved-type-wire-size
 use Rattle.wiresize.proofs.compute_union_wire_size.Reads as compute-union-wire-size
-use Rattle.wiresize.proofs.+compute_limited_wire_size+compute_message_wire_size+compute_plain_wire_size+compute_resolved_type_wire_size+compute_type_wire_size+compute_union_wire_size+compute_variants_wire_size+named_type_wire_size.Proof.Common.{compute-message-wire-size-below, compute-resolved-type-wire-size-below, compute-union-wire-size-below, named-type-wire-size-at}
+use Rattle.wiresize.proofs.+compute_message_wire_size+compute_resolved_type_wire_size+compute_type_wire_size+compute_union_wire_size+limited_size+named_type_wire_size+plain_size+variants_size.Proof.Common.{compute-message-wire-size-below, compute-resolved-type-wire-size-below, compute-union-wire-size-below, named-type-wire-size-at}
 use mathlib.Core.Path.{refl, sym, _∙_}
 use Rattle.view.proofs.Insides.{fields-inside, variants-inside, terminal-inside}
 use Rattle.reader.proofs.Fetching.{not-missing}

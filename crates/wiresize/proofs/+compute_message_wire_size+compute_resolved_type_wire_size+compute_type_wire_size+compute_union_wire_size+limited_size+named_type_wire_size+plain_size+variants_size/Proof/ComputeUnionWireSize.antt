@@ -8,16 +8,16 @@ use Rattle.number.proofs.Reading.{told, many-length}
 use Rattle.measures.proofs.tag.Reads as tag-reads
 use Rattle.settling.proofs.Ended.{not-refused}
 use Rattle.wiresize.proofs.compute_union_wire_size.Reads as compute-union-wire-size
-use Rattle.wiresize.proofs.+compute_limited_wire_size+compute_message_wire_size+compute_plain_wire_size+compute_resolved_type_wire_size+compute_type_wire_size+compute_union_wire_size+compute_variants_wire_size+named_type_wire_size.Lts-compute_union_wire_size as compute-union-wire-size-lts
-use Rattle.wiresize.proofs.compute_variants_wire_size.Reads as compute-variants-wire-size
-use Rattle.wiresize.proofs.+compute_limited_wire_size+compute_message_wire_size+compute_plain_wire_size+compute_resolved_type_wire_size+compute_type_wire_size+compute_union_wire_size+compute_variants_wire_size+named_type_wire_size.Proof.Common.{compute-union-wire-size-at, compute-variants-wire-size-below}
+use Rattle.wiresize.proofs.+compute_message_wire_size+compute_resolved_type_wire_size+compute_type_wire_size+compute_union_wire_size+limited_size+named_type_wire_size+plain_size+variants_size.Lts-compute_union_wire_size as compute-union-wire-size-lts
+use Rattle.wiresize.proofs.variants_size.Reads as variants-size
+use Rattle.wiresize.proofs.+compute_message_wire_size+compute_resolved_type_wire_size+compute_type_wire_size+compute_union_wire_size+limited_size+named_type_wire_size+plain_size+variants_size.Proof.Common.{compute-union-wire-size-at, variants-size-below}
 use Rattle.wiresize.proofs.Fields.{count-read}
 use Rattle.wiresize.proofs.Variants.{union-none, variants-behind, union-ended, union-tagged}
 use Rattle.wiresize.proofs.Measure.{variants-in-body}
 
 module _ (t : ℕ) where
   abbrev env : compute-union-wire-size-lts.Claims
-  env = (read-below-reads.Asked, read-below-reads.Learnt, compute-variants-wire-size-below t, compute-variants-wire-size.Post, tag-reads.Asked, tag-reads.Learnt)
+  env = (read-below-reads.Asked, read-below-reads.Learnt, variants-size-below t, variants-size.Post, tag-reads.Asked, tag-reads.Learnt)
 
   returns : compute-union-wire-size-lts.Need-returns env (compute-union-wire-size-at t) compute-union-wire-size.Post
   returns c = record { worked = λ vs end q. absurd (not-refused (told (c .before .before .read-below .ensures) (c .enum-told .given .1)) (count-read _ _ _ q .2)) }
@@ -27,8 +27,8 @@ module _ (t : ℕ) where
     worked = λ vs end q st H. union-none _ _ vs (many-length _ _ _ _ vs end (variants-behind _ _ _ _ (told (c .before .before .before .before .read-below .ensures) (c .before .before .count .given .1)) q) ∙ c .if1 .taken);
   }
 
-  compute-variants-wire-size-requires : compute-union-wire-size-lts.Need-compute-variants-wire-size-requires env (compute-union-wire-size-at t) compute-union-wire-size.Post
-  compute-variants-wire-size-requires c κs =
+  variants-size-requires : compute-union-wire-size-lts.Need-variants-size-requires env (compute-union-wire-size-at t) compute-union-wire-size.Post
+  variants-size-requires c κs =
       let start = c .before .before .before .before .before .before .before .before in
       let a = start .pre .1 .0 in
       let b = told (c .before .before .before .before .read-below .ensures) (c .before .before .count .given .1) in
@@ -39,15 +39,15 @@ module _ (t : ℕ) where
       let worked = c .before .before .before .before in
       let test = worked .before in
       let b = told (test .before .before .before .before .read-below .ensures) (test .before .before .count .given .1) in
-      union-tagged _ _ _ _ _ _ b (worked .compute-variants-wire-size .ensures) (c .before .before .extremes .given .1) (pos-of-ne-zero (test .if1 .left)) (c .tag .ensures)
+      union-tagged _ _ _ _ _ _ b (worked .variants-size .ensures) (c .before .before .extremes .given .1) (pos-of-ne-zero (test .if1 .left)) (c .tag .ensures)
 
   returns-4 : compute-union-wire-size-lts.Need-returns-4 env (compute-union-wire-size-at t) compute-union-wire-size.Post
   returns-4 c =
       let worked = c .before .before .before in
       let test = worked .before in
       let b = told (test .before .before .before .before .read-below .ensures) (test .before .before .count .given .1) in
-      union-ended _ _ _ _ _ _ b (worked .compute-variants-wire-size .ensures) (c .before .by .given .1)
+      union-ended _ _ _ _ _ _ b (worked .variants-size .ensures) (c .before .by .given .1)
 
   pub spec : {M : Type 1} → compute-union-wire-size-lts.Closed env (compute-union-wire-size-at t) compute-union-wire-size.Post M
   spec =
-      compute-union-wire-size-lts.spec env (compute-union-wire-size-at t) compute-union-wire-size.Post (λ c κs. search needs) (λ c. search needs) (λ c. search needs) returns returns-2 compute-variants-wire-size-requires (λ c. search needs) (λ c κs. search needs) (λ c. search needs) returns-3 returns-4
+      compute-union-wire-size-lts.spec env (compute-union-wire-size-at t) compute-union-wire-size.Post (λ c κs. search needs) (λ c. search needs) (λ c. search needs) returns returns-2 variants-size-requires (λ c. search needs) (λ c κs. search needs) (λ c. search needs) returns-3 returns-4
