@@ -45,11 +45,11 @@ same-either : (t x : Bool) → cond t x x ≡ x
 same-either true x = refl
 same-either false x = refl
 
-pub grown-none : {m : List ℕ} {more : Leads} → length m ≡ 4096 → ((a b : ℕ) → a < 512 → b < 512 → more a b ≡ false) → Grown m more m
-grown-none len h = record { long = len; places = λ a b p q. rw (h a b p q) (sym (or-false _)) }
+pub grown-none : {m : List ℕ} {more : Leads} → ((a b : ℕ) → a * 8 + 8 ≤ length m → b < 512 → more a b ≡ false) → Grown m more m
+grown-none h = record { long = refl; places = λ a b p q. rw (h a b p q) (sym (or-false _)) }
 
 pub grown-as : {m m′ : List ℕ} {more more′ : Leads} → Grown m more m′
-    → ((a b : ℕ) → a < 512 → b < 512 → more a b ≡ more′ a b) → Grown m more′ m′
+    → ((a b : ℕ) → a * 8 + 8 ≤ length m → b < 512 → more a b ≡ more′ a b) → Grown m more′ m′
 grown-as g h = record { long = g .long; places = λ a b p q. g .places a b p q ∙ rw (h a b p q) }
 
 -- a loop's turns: turn j sets the places of h whose key is j
@@ -57,15 +57,15 @@ module _ (key : ℕ → ℕ → ℕ) (h : Leads) (m₀ : List ℕ) where
   abbrev pub Turns : ℕ → List ℕ → Type 0
   Turns j m = Grown m₀ (λ a b. ltb (key a b) j && h a b) m
 
-  pub turns-start : length m₀ ≡ 4096 → Turns 0 m₀
-  turns-start len = grown-none len (λ a b p q. rw (le-ltb (key a b) 0 (omega arith)))
+  pub turns-start : Turns 0 m₀
+  turns-start = grown-none (λ a b p q. rw (le-ltb (key a b) 0 (omega arith)))
 
   pub turns-on : (j : ℕ) (m m′ : List ℕ) → Turns j m → Grown m (λ a b. eqb (key a b) j && h a b) m′ → Turns (j + 1) m′
   turns-on j m m′ r g =
       record {
-        long = g .long;
+        long = g .long ∙ r .long;
         places = λ a b p q.
-            g .places a b p q
+            g .places a b (omega (arith, r .long)) q
             ∙ rw (r .places a b p q, ltb-next (key a b) j, and-or-distrib-right (ltb (key a b) j) (eqb (key a b) j) (h a b))
             (or-assoc (grid m₀ a b) (ltb (key a b) j && h a b) (eqb (key a b) j && h a b));
       }
@@ -78,7 +78,7 @@ module _ (m : List ℕ) (i j v : ℕ) where
   abbrev bits : Leads
   bits a b = eqb (b / 64) j && (eqb a i && bit v (b % 64))
 
-  module _ (len : length m ≡ 4096) (il : i < 512) (jl : j < 8) where
+  module _ (il : i * 8 + 8 ≤ length m) (jl : j < 8) where
     put-at : (a b : ℕ) → b < 512 → Dec (a ≡ i) → Dec (b / 64 ≡ j) → grid put a b ≡ (grid m a b || bits a b)
     unfolding grid
     put-at a b q (yes e) (yes f) =
@@ -92,18 +92,18 @@ module _ (m : List ℕ) (i j v : ℕ) where
     stored : Grown m bits put
     stored =
         record {
-          long = length-set m (i * 8 + j) _ ∙ len;
+          long = length-set m (i * 8 + j) _;
           places = λ a b p q. put-at a b q (ℕ-discrete a i) (ℕ-discrete (b / 64) j);
         }
 
-module _ (m : List ℕ) (a b : ℕ) (len : length m ≡ 4096) where
-  pub marked : a < 512 → b < 512 → Marked m a b (put m a (b / 64) (1 * 2 ^ (b % 64) % 2 ^ 64))
+module _ (m : List ℕ) (a b : ℕ) where
+  pub marked : a * 8 + 8 ≤ length m → b < 512 → Marked m a b (put m a (b / 64) (1 * 2 ^ (b % 64) % 2 ^ 64))
   marked al bl =
-      grown-as (stored m a (b / 64) (1 * 2 ^ (b % 64) % 2 ^ 64) len al (omega arith))
+      grown-as (stored m a (b / 64) (1 * 2 ^ (b % 64) % 2 ^ 64) al (omega arith))
       (λ x y p q. rw (bit-shifted (b % 64) (y % 64) (omega arith)) (same-place (eqb x a) y b))
 
   pub unmarked : 512 ≤ b → Marked m a b m
-  unmarked h = grown-none len (λ x y p q. rw (ne-eqb y b (λ e. omega arith)) (and-false (eqb x a)))
+  unmarked h = grown-none (λ x y p q. rw (ne-eqb y b (λ e. omega arith)) (and-false (eqb x a)))
 
 pub empty : (m : List ℕ) (a : ℕ) → ((j : ℕ) → j < 8 → getD m (a * 8 + j) 0 ≡ 0) → Unmarked m a
 unfolding grid
@@ -121,15 +121,15 @@ abbrev pub Words : List ℕ → (i k j : ℕ) → List ℕ → Type 0
 Words m₀ i k = Turns (λ a b. b / 64) (λ a b. eqb a i && grid m₀ k b) m₀
 
 module _ (m₀ : List ℕ) (i k : ℕ) where
-  pub words-start : length m₀ ≡ 4096 → Words m₀ i k 0 m₀
-  words-start len = turns-start (λ a b. b / 64) (λ a b. eqb a i && grid m₀ k b) m₀ len
+  pub words-start : Words m₀ i k 0 m₀
+  words-start = turns-start (λ a b. b / 64) (λ a b. eqb a i && grid m₀ k b) m₀
 
-  pub words-on : (j : ℕ) (m : List ℕ) → Words m₀ i k j m → i < 512 → k < 512 → j < 8
+  pub words-on : (j : ℕ) (m : List ℕ) → Words m₀ i k j m → i * 8 + 8 ≤ length m₀ → k * 8 + 8 ≤ length m₀ → j < 8
       → Words m₀ i k (j + 1) (put m i j (getD m (k * 8 + j) 0))
   unfolding grid
   words-on j m r il kl jl =
       turns-on _ _ m₀ j m _ r
-      (grown-as (stored m i j (getD m (k * 8 + j) 0) (r .long) il jl)
+      (grown-as (stored m i j (getD m (k * 8 + j) 0) (omega (arith, r .long)) jl)
       (λ a b p q. at-same (b / 64) j (λ z. eqb a i && bit (getD m (k * 8 + z) 0) (b % 64))
       ∙ rw (r .places k b kl q, row-stays)))
 
@@ -140,31 +140,31 @@ module _ (m₀ : List ℕ) (i k : ℕ) where
 abbrev pub Rows : List ℕ → (k i : ℕ) → List ℕ → Type 0
 Rows m₀ k = Turns (λ a b. a) (λ a b. grid m₀ a k && grid m₀ k b) m₀
 
-pub rows-start : (m₀ : List ℕ) (k : ℕ) → length m₀ ≡ 4096 → Rows m₀ k 0 m₀
-rows-start m₀ k len = turns-start (λ a b. a) (λ a b. grid m₀ a k && grid m₀ k b) m₀ len
+pub rows-start : (m₀ : List ℕ) (k : ℕ) → Rows m₀ k 0 m₀
+rows-start m₀ k = turns-start (λ a b. a) (λ a b. grid m₀ a k && grid m₀ k b) m₀
 
-module _ (m₀ : List ℕ) (k i : ℕ) (m : List ℕ) (r : Rows m₀ k i m) (kl : k < 512) where
+module _ (m₀ : List ℕ) (k i : ℕ) (m : List ℕ) (r : Rows m₀ k i m) (kl : k * 8 + 8 ≤ length m₀) (k512 : k < 512) where
   rows-on : (m′ : List ℕ) → Grown m (λ a b. eqb a i && (grid m i k && grid m k b)) m′ → Rows m₀ k (i + 1) m′
   rows-on m′ g =
       turns-on _ _ m₀ i m m′ r
       (grown-as g
       (λ a b p q. at-same a i (λ z. grid m z k && grid m k b)
-      ∙ rw (r .places a k p kl, r .places k b kl q, column-stays, row-stays)))
+      ∙ rw (r .places a k (omega (arith, r .long)) k512, r .places k b kl q, column-stays, row-stays)))
 
   pub took : (m′ m″ : List ℕ) → grid m i k ≡ true → Joined m i k m′ → m″ ≡ m′ → Rows m₀ k (i + 1) m″
   took m′ m″ h j e = rw e (rows-on m′ (grown-as j (λ a b p q. rw h)))
 
   pub kept : (m′ : List ℕ) → grid m i k ≡ false → m′ ≡ m → Rows m₀ k (i + 1) m′
-  kept m′ h e = rw e (rows-on m (grown-none (r .long) (λ a b p q. rw h (and-false (eqb a i)))))
+  kept m′ h e = rw e (rows-on m (grown-none (λ a b p q. rw h (and-false (eqb a i)))))
 
-pub round-none : (m : List ℕ) (k n : ℕ) → length m ≡ 4096 → ((b : ℕ) → b < 512 → grid m k b ≡ false) → Round m k n m
-round-none m k n len h = grown-none len (λ a b p q. rw (h b q, and-false (grid m a k)) (and-false (ltb a n)))
+pub round-none : (m : List ℕ) (k n : ℕ) → ((b : ℕ) → b < 512 → grid m k b ≡ false) → Round m k n m
+round-none m k n h = grown-none (λ a b p q. rw (h b q, and-false (grid m a k)) (and-false (ltb a n)))
 
-pub closed-start : (m : List ℕ) (n : ℕ) → length m ≡ 4096 → Closed m 0 n m
+pub closed-start : (m : List ℕ) (n : ℕ) → Closed m 0 n m
 unfolding via
-closed-start m n len = record { long = len; places = λ a b p q. sym (same-either (ltb a n) (grid m a b)) }
+closed-start m n = record { long = refl; places = λ a b p q. sym (same-either (ltb a n) (grid m a b)) }
 
-module _ (m₀ : List ℕ) (k n : ℕ) (m : List ℕ) (h : n ≤ 512) (c : Closed m₀ k n m) where
+module _ (m₀ : List ℕ) (k n : ℕ) (m : List ℕ) (f : n * 8 ≤ length m₀) (h : n ≤ 512) (c : Closed m₀ k n m) where
   pub ways : (a b : ℕ) → a < n → b < 512 → grid m a b ≡ via (grid m₀) k a b
   ways a b p q = c .places a b (omega arith) q ∙ rw (lt-ltb a n p)
 
@@ -172,8 +172,8 @@ module _ (m₀ : List ℕ) (k n : ℕ) (m : List ℕ) (h : n ≤ 512) (c : Close
   unfolding via
   closed-on m′ l r =
       record {
-        long = r .long;
-        places = λ a b p q. r .places a b p q
+        long = r .long ∙ c .long;
+        places = λ a b p q. r .places a b (omega (arith, c .long)) q
             ∙ by-cases (decLt a n)
             (λ t. rw (add-one, lt-ltb a n t, ways a b t q, ways a k t (omega arith), ways k b l q))
             (λ t. rw (le-ltb a n (omega arith)) (or-false (grid m a b) ∙ c .places a b p q ∙ rw (le-ltb a n (omega arith))));

@@ -28,7 +28,7 @@ is-false false h = refl
 pub not-both : (x : Bool) → x ≡ true → x ≡ false → ⊥
 not-both x h k = true≢false (sym h ∙ k)
 
-lowest-at : (p : ℕ → Bool) (n i x : ℕ) → lowest p n i ≡ Lowest.At x → (p x ≡ true) × ((j : ℕ) → i ≤ j → j < x → p j ≡ false)
+pub lowest-at : (p : ℕ → Bool) (n i x : ℕ) → lowest p n i ≡ Lowest.At x → (p x ≡ true) × ((j : ℕ) → i ≤ j → j < x → p j ≡ false)
 unfolding lowest
 lowest-at p zero i x h = let z : _≡_ {A = ℕ} 0 1 = cc in absurd (omega arith)
 lowest-at p (suc n) i x h = go (p i) refl h (λ k. lowest-at p n (suc i) x k)
@@ -85,7 +85,7 @@ module _ (P : ℕ → Type 0) (p : ℕ → Bool) (n : ℕ) (told : (j : ℕ) →
 
 -- what does not concern the numbers below n does not change the answer
 module _ (e e′ : Leads) (n : ℕ) (same : (a b : ℕ) → a < n → b < n → e a b ≡ e′ a b) where
-  via-same : (k : ℕ) → k ≤ n → (a b : ℕ) → a < n → b < n → via e k a b ≡ via e′ k a b
+  pub via-same : (k : ℕ) → k ≤ n → (a b : ℕ) → a < n → b < n → via e k a b ≡ via e′ k a b
   unfolding via
   via-same zero l a b p q = same a b p q
   via-same (suc k) l a b p q =

@@ -1,5 +1,5 @@
--- A graph of 512 numbers as a table of bits, and what the code makes of it.
-use Prim.Native.Nat.{ℕ, zero, suc, _+_, _*_, _/_, _%_, _^_, _<_}
+-- A graph of up to 512 numbers as a table of bits, and what the code makes of it.
+use Prim.Native.Nat.{ℕ, zero, suc, _+_, _*_, _/_, _%_, _^_, _<_, _≤_}
 use native.Mathlib.Nat.{zero-div}
 use mathlib.Core.Path.{_≡_, refl}
 use mathlib.Core.List.{List}
@@ -18,8 +18,8 @@ grid m a b = bit (getD m (a * 8 + b / 64) 0) (b % 64)
 
 -- the table with more places set
 pub record Grown (before : List ℕ) (more : Leads) (after : List ℕ) : Type 0 where
-  pub long : length after ≡ 4096
-  pub places : (a b : ℕ) → a < 512 → b < 512 → grid after a b ≡ (grid before a b || more a b)
+  pub long : length after ≡ length before
+  pub places : (a b : ℕ) → a * 8 + 8 ≤ length before → b < 512 → grid after a b ≡ (grid before a b || more a b)
 
 -- with one place set
 abbrev pub Marked : List ℕ → (a b : ℕ) → List ℕ → Type 0
@@ -35,8 +35,8 @@ Round m k n m′ = Grown m (λ a b. ltb a n && (grid m a k && grid m k b)) m′
 
 -- the rows below n have the ways through numbers below k; the others are as they were
 pub record Closed (before : List ℕ) (k n : ℕ) (after : List ℕ) : Type 0 where
-  pub long : length after ≡ 4096
-  pub places : (a b : ℕ) → a < 512 → b < 512 → grid after a b ≡ cond (ltb a n) (via (grid before) k a b) (grid before a b)
+  pub long : length after ≡ length before
+  pub places : (a b : ℕ) → a * 8 + 8 ≤ length before → b < 512 → grid after a b ≡ cond (ltb a n) (via (grid before) k a b) (grid before a b)
 
 -- is each place of a row unmarked
 abbrev pub Unmarked : List ℕ → (a : ℕ) → Type 0
@@ -51,7 +51,7 @@ pub bit-zero : (j : ℕ) → bit 0 j ≡ false
 unfolding bit
 bit-zero j = rw zero-div
 
-blank : (n a b : ℕ) → grid (replicate n 0) a b ≡ false
+pub blank : (n a b : ℕ) → grid (replicate n 0) a b ≡ false
 unfolding grid
 blank n a b = rw (zeros-at n (a * 8 + b / 64)) (bit-zero (b % 64))
 

@@ -6,7 +6,7 @@ use mathlib.Core.Bool.{Bool, true, false}
 use native.Mathlib.Omega.{arith}
 use borrow.Author.Tests.{eq-eqb, eqb-true, lt-ltb}
 use lib.Dec.{eqb}
-use lib.ListN.{length, getD, replicate}
+use lib.ListN.{length, getD, replicate, length-replicate}
 use Rattle.number.specs.Grammar.{done, read}
 use Rattle.tree.specs.Tree.{Tree}
 use Rattle.tree.specs.TreeAt.{treeAt}
@@ -77,9 +77,9 @@ module _ (sort : Sort) (finds : List ℕ) (names : ℕ) (s starts : List ℕ) (r
       let t = tree-of ed names s starts row named l x end e sort k start i in
       led-as row (sym (t .2 finds)) (w (t .0) end (t .1) .0)
 
-  pub row-none : b ≡ false → length m ≡ 4096 → SlotMarked sort names finds row s starts m m
-  row-none h len named l ed x end e =
-      led-none row len (other-kind sort finds x (λ k. not-both _ (eq-eqb (slotKind x) (leadKind sort) k) (sym (lead-kind ed names s starts row named l x end e sort b q) ∙ h)))
+  pub row-none : b ≡ false → SlotMarked sort names finds row s starts m m
+  row-none h named l ed x end e =
+      led-none row (other-kind sort finds x (λ k. not-both _ (eq-eqb (slotKind x) (leadKind sort) k) (sym (lead-kind ed names s starts row named l x end e sort b q) ∙ h)))
 
 -- the slots of an image
 pub slot-is : (ed : Edition) (names count : ℕ) (s starts : List ℕ) (i : ℕ) → i < count → (x : Slot) (end : ℕ) → read (slotAt ed names) s (getD starts i 0) ≡ done x end → slotsOf ed names count s starts i ≡ x
@@ -93,8 +93,8 @@ module _ (sort : Sort) (ed : Edition) (names count : ℕ) (finds s starts : List
   abbrev pub Rows : (before : List ℕ) → (i : ℕ) → (after : List ℕ) → Type 0
   Rows before i after = (i ≤ count) × Filled before (leads sort finds S) i after
 
-  pub rows-start : (m : List ℕ) → length m ≡ 4096 → Rows m 0 m
-  rows-start m len = (omega arith, turns-start (λ a b. a) (leads sort finds S) m len)
+  pub rows-start : (m : List ℕ) → Rows m 0 m
+  rows-start m = (omega arith, turns-start (λ a b. a) (leads sort finds S) m)
 
   module _ (p : Located ed names count s starts) where
     pub rows-on : (m₀ m m′ : List ℕ) (i : ℕ) → i < count → Rows m₀ i m → SlotMarked sort names finds i s starts m m′ → Rows m₀ (i + 1) m′
@@ -113,4 +113,4 @@ module _ (sort : Sort) (ed : Edition) (names count : ℕ) (finds s starts : List
   unfolding loopOf
   lowest-is m r few g e =
       e ∙ looped-same (grid m) (leads sort finds S) count
-      (λ a b u v. g .places a b (omega arith) (omega arith) ∙ rw (grid-zeros a b, lt-ltb a count u))
+      (λ a b u v. g .places a b (omega (arith, length-replicate {A = ℕ} 4096 0)) (omega arith) ∙ rw (grid-zeros a b, lt-ltb a count u))

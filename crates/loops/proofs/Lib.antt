@@ -1,4 +1,4 @@
-mod Marking
+pub mod Marking
 mod Filling
 pub mod Leading
 pub mod Finding

@@ -1,5 +1,5 @@
 -- Marks of a row by the shape of a tree's head: what the walk has at each of its ends. Assumes nothing.
-use Prim.Native.Nat.{ℕ, suc, _-_, _^_, _≤_, _<_}
+use Prim.Native.Nat.{ℕ, suc, _+_, _*_, _-_, _^_, _≤_, _<_}
 use mathlib.Core.Path.{_≡_, refl, sym, ap, subst, _∙_}
 use mathlib.Core.List.{List, [], _∷_, _++_}
 use mathlib.Core.Bool.{Bool, true, false, cond, _&&_, and-false, or-false, or-assoc, and-or-distrib-left}
@@ -25,9 +25,9 @@ use Rattle.view.specs.Take.{placeOf}
 use Rattle.loops.specs.Marks.{enters, nameSlots, Led, TreeMarked}
 
 module _ {m : List ℕ} (row : ℕ) where
-  pub led-none : {l : List ℕ} → length m ≡ 4096 → [] ≡ l → Led m row l m
+  pub led-none : {l : List ℕ} → [] ≡ l → Led m row l m
   unfolding has
-  led-none len e = grown-none len (λ a b p q. rw (← e) (and-false (eqb a row)))
+  led-none e = grown-none (λ a b p q. rw (← e) (and-false (eqb a row)))
 
   pub led-one : {b : ℕ} {m′ l : List ℕ} → Marked m row b m′ → b ∷ [] ≡ l → Led m row l m′
   unfolding has
@@ -36,12 +36,12 @@ module _ {m : List ℕ} (row : ℕ) where
   pub led-as : {k l : List ℕ} {m′ : List ℕ} → k ≡ l → Led m row k m′ → Led m row l m′
   led-as {m′ = m′} e g = subst (λ (x : List ℕ). Led m row x m′) e g
 
-  led-more : (k l : List ℕ) {m₁ m₂ : List ℕ} → Led m row k m₁ → Led m₁ row l m₂ → Led m row (k ++ l) m₂
+  pub led-more : (k l : List ℕ) {m₁ m₂ : List ℕ} → Led m row k m₁ → Led m₁ row l m₂ → Led m row (k ++ l) m₂
   led-more k l f g =
       record {
-        long = g .long;
+        long = g .long ∙ f .long;
         places = λ a b p q.
-            g .places a b p q
+            g .places a b (omega (arith, f .long)) q
             ∙ rw (f .places a b p q, has-append b k l, and-or-distrib-left (eqb a row) (has b k) (has b l))
             (or-assoc (grid m a b) (eqb a row && has b k) (eqb a row && has b l));
       }
@@ -166,8 +166,8 @@ module _ (sort : Sort) (names : ℕ) (finds : List ℕ) (row : ℕ) (s : List �
     pub walk-one : (k n r : ℕ) (m′ : List ℕ) → Shape (Head.One k n) → true ≡ enters sort k → Walked m m′ (levels - 1) n r → Walked m m′ levels at r
     walk-one k n r m′ x g i = one k n x true g r m′ i
 
-    pub walk-past-one : (k n r : ℕ) → length m ≡ 4096 → Shape (Head.One k n) → false ≡ enters sort k → After n r → Walked m m levels at r
-    walk-past-one k n r len x g a = one k n x false g r m (λ u end e. (led-none row len refl, ends a e))
+    pub walk-past-one : (k n r : ℕ) → Shape (Head.One k n) → false ≡ enters sort k → After n r → Walked m m levels at r
+    walk-past-one k n r x g a = one k n x false g r m (λ u end e. (led-none row refl, ends a e))
 
     two : (k n : ℕ) → Shape (Head.Two k n) → (b : Bool) → b ≡ enters sort k → (r : ℕ) (m′ : List ℕ)
         → ((u v : Tree) (a end : ℕ) → Child n u a → Child a v end → Led m row (cond b (Slots u ++ Slots v) []) m′ × (r ≡ end)) → Walked m m′ levels at r
@@ -185,10 +185,10 @@ module _ (sort : Sort) (names : ℕ) (finds : List ℕ) (row : ℕ) (s : List �
         let w = j v end (ap (read (treeAt sort names (levels - 1)) s) (q .1) ∙ e) in
         (led-more row (Slots u) (Slots v) (q .0) (w .0), w .1))
 
-    pub walk-past-two : (k n a r : ℕ) → length m ≡ 4096 → Shape (Head.Two k n) → false ≡ enters sort k → After n a → After a r → Walked m m levels at r
-    walk-past-two k n a r len x g f f′ =
+    pub walk-past-two : (k n a r : ℕ) → Shape (Head.Two k n) → false ≡ enters sort k → After n a → After a r → Walked m m levels at r
+    walk-past-two k n a r x g f f′ =
         two k n x false g r m
-        (λ u v p end d e. (led-none row len refl, ends f′ (ap (read (treeAt sort names (levels - 1)) s) (ends f d) ∙ e)))
+        (λ u v p end d e. (led-none row refl, ends f′ (ap (read (treeAt sort names (levels - 1)) s) (ends f d) ∙ e)))
 
     pub walk-sized : (n a r : ℕ) (m′ : List ℕ) → Shape (Head.Sized n) → Walked m m′ (levels - 1) n a → r ≡ placeOf (next (below (2 ^ 64) s a)) → Walked m m′ levels at r
     walk-sized n a r m′ x i f t end e =

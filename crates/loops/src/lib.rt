@@ -6,7 +6,7 @@ use tree::Sort;
 use view::Part;
 ghost use mathlib.Core.Path.{_≡_};
 ghost use mathlib.Core.List.{List};
-ghost use Prim.Native.Nat.{ℕ, _<_, _≤_};
+ghost use Prim.Native.Nat.{ℕ, _+_, _*_, _<_, _≤_};
 ghost use lib.ListN.{length};
 ghost use Rattle.tree.specs.Tree.{Leaf, leaf, leafKind, leafNumber};
 ghost use Rattle.slot.specs.declared.Edition.{Edition};
@@ -31,7 +31,7 @@ fn goes_in(sort: Sort, kind: u64) -> bool
 
 // A type's name is a slot.
 fn mark_leaf(sort: Sort, kind: u64, number: u64, rows: &mut [u64], row: usize)
-    requires { ⌜ (length (now rows) ≡ 4096) × (row < 512) ⌝ }
+    requires { ⌜ row * 8 + 8 ≤ length (now rows) ⌝ }
     ensures { λ _. ⌜ ((finds : List ℕ) (l : Leaf) → leafKind l ≡ kind → leafNumber l ≡ number → Led (now (rows .entry)) row (treeSlots sort finds (leaf l)) (now (rows .exit))) ⌝ }
 {
     match sort {
@@ -45,7 +45,7 @@ fn mark_leaf(sort: Sort, kind: u64, number: u64, rows: &mut [u64], row: usize)
 
 // A generic leads to the slot that its name finds.
 fn mark_generic(sort: Sort, name: u64, finds: &[u16], rows: &mut [u64], row: usize)
-    requires { ⌜ (length (now rows) ≡ 4096) × (row < 512) ⌝ }
+    requires { ⌜ row * 8 + 8 ≤ length (now rows) ⌝ }
     ensures { λ _. ⌜ Led (now (rows .entry)) row (nameSlots sort (now (finds .entry)) name) (now (rows .exit)) ⌝ }
 {
     match sort {
@@ -62,7 +62,7 @@ fn mark_generic(sort: Sort, name: u64, finds: &[u16], rows: &mut [u64], row: usi
 }
 
 // Marks what a tree leads to, and gives the position after it.
-fn mark_tree(
+pub fn mark_tree(
     image: &[u8],
     at: usize,
     levels: usize,
@@ -72,7 +72,7 @@ fn mark_tree(
     rows: &mut [u64],
     row: usize,
 ) -> usize
-    requires { ⌜ (length (now rows) ≡ 4096) × (row < 512) ⌝ }
+    requires { ⌜ row * 8 + 8 ≤ length (now rows) ⌝ }
     ensures { λ r. ⌜ TreeMarked sort names levels (now (finds .entry)) row (now (image .entry)) at (now (rows .entry)) (now (rows .exit)) r ⌝ }
 {
     if levels == 0 {
@@ -141,7 +141,7 @@ fn slot_row(
     rows: &mut [u64],
     row: usize,
 )
-    requires { ⌜ (length (now rows) ≡ 4096) × (row < 512) ⌝ }
+    requires { ⌜ row * 8 + 8 ≤ length (now rows) ⌝ }
     ensures { λ _. ⌜ SlotMarked sort names (now (finds .entry)) row (now (image .entry)) (now (starts .entry)) (now (rows .entry)) (now (rows .exit)) ⌝ }
 {
     if is_lead(image, starts, row, sort) {
@@ -159,7 +159,7 @@ fn fill_rows(
     sort: Sort,
     rows: &mut [u64],
 )
-    requires { ⌜ (length (now rows) ≡ 4096) × ((ed : Edition) × Located ed names count (now image) (now starts)) ⌝ }
+    requires { ⌜ (count * 8 ≤ length (now rows)) × ((ed : Edition) × Located ed names count (now image) (now starts)) ⌝ }
     ensures { λ _. ⌜ ((ed : Edition) → Located ed names count (now (image .entry)) (now (starts .entry)) → Filled (now (rows .entry)) (leads sort (now (finds .entry)) (slotsOf ed names count (now (image .entry)) (now (starts .entry)))) count (now (rows .exit))) ⌝ }
 {
     let mut i: usize = 0;

@@ -30,6 +30,7 @@ use Rattle.sizes.specs.declared.Operation.{Operation}
 use Rattle.sizes.specs.declared.Worked.{Worked}
 use Rattle.sizes.specs.declared.Worked.the-variants.{Sized, Over}
 use Rattle.sizes.specs.Elements.{Count, atMostOne, anyNumber, exactly, countOf, Element, item, entry, wrapElement, elementOf, isPlain, withLimit, limitedElement}
+use Rattle.sizes.specs.Nodes.{typeNodes, fieldNodes}
 use Rattle.sizes.specs.Sizes.{Resolver, largest, then, limitedSum, wrapSize, typeSize, encodedSize, entrySize, elementSize, upTo, elementsSize, fieldAlone}
 use Rattle.sizes.specs.Limits.{by-type, by-limit, by-all, alone-unlimited, alone-limited}
 use Rattle.settling.specs.Steps.{LimitBehind, Holds, elementAt, Bears, plainAt, Told, Plains}
@@ -39,6 +40,7 @@ use Rattle.settling.specs.declared.Limited.{Limited}
 use Rattle.settling.proofs.Ended.{at-end, not-stopped, not-refused}
 use Rattle.settling.proofs.Heads.{type-parts}
 use Rattle.settling.proofs.Typing.{pair-map, pair-result, plain-size}
+use Rattle.settling.proofs.Counting.{nodes-plain, nodes-open}
 
 -- ## Kinds that hold no elements
 
@@ -260,7 +262,7 @@ module _ (ed : Edition) (names : ℕ) (s : List ℕ) (at : ℕ) where
   abbrev made : Tree → ℕ → Field
   made t l = record { fieldName = 0; encoding = default; type = t; limit = l }
 
-  plain-parts : (x : Field) (end : ℕ) → read (plainAt ed names) s at ≡ done x end → PlainParts ed names s at x end
+  pub plain-parts : (x : Field) (end : ℕ) → read (plainAt ed names) s at ≡ done x end → PlainParts ed names s at x end
   unfolding plainAt read
   plain-parts x end q =
       let a = read-done (typeAt names) (λ t. _>>=_ (limitAt ed) (λ l. give (made t l))) s at x end q in
@@ -301,7 +303,7 @@ module _ (f : Frame) (s : List ℕ) (at : ℕ) where
 
   by-type-alone : (x : Field) (end : ℕ) → Here x end → limitedElement x ≡ none → Told f s at x end Plain.Type
   unfolding Told
-  by-type-alone x end k n = (k .behind, k .typed, k .limit, by-itself x end k n)
+  by-type-alone x end k n = (k .behind, k .typed, k .limit, by-itself x end k n, nodes-plain x (ap isPlain (k .plain)) n)
 
   -- edition one
   pub plain-one : f .edition ≡ One → Plains f s at Plain.Type
@@ -333,7 +335,8 @@ module _ (f : Frame) (s : List ℕ) (at : ℕ) where
           let k = here x end r in
           let m = limit-is x end k in
           let u = run-of (f .names) s at kind body q (x .type) (k .behind) (k .typed) holds in
-          (m .1, λ R. sym (open-size (x .type) (u .element) (u .holds) R) ∙ by-itself x end k (by-limit x (sym (m .0) ∙ z)) R)
+          let n = by-limit x (sym (m .0) ∙ z) in
+          (m .1, λ R. sym (open-size (x .type) (u .element) (u .holds) R) ∙ by-itself x end k n R, nodes-open x (ap isPlain (k .plain)) (u .element) (u .holds) n)
 
       pub plain-limited : (most ≡ 0 → ⊥) → Plains f s at (Plain.Limited record { kind = kind; body = body; most = most; next = place })
       unfolding Told
@@ -346,13 +349,13 @@ module _ (f : Frame) (s : List ℕ) (at : ℕ) where
 -- what was told, once it was matched
 module _ (f : Frame) (s : List ℕ) (at : ℕ) (r : Plain) (h : Plains f s at r) where
   pub is-told : (w : Walked) → r ≡ Plain.Is w → (x : Field) (end : ℕ) → read (plainAt (f .edition) (f .names)) s at ≡ done x end
-      → (w .next ≡ end) × ((R : Resolver) → w .worked ≡ fieldAlone R x)
+      → (w .next ≡ end) × ((R : Resolver) → w .worked ≡ fieldAlone R x) × (fieldNodes x ≡ 1)
   unfolding Told
   is-told w e x end q = subst (Told f s at x end) e (h x end q)
 
   pub type-told : r ≡ Plain.Type → (x : Field) (end : ℕ) → read (plainAt (f .edition) (f .names)) s at ≡ done x end
       → (behind : ℕ) × (read (typeAt (f .names)) s at ≡ done (x .type) behind) × (read (limitAt (f .edition)) s behind ≡ done (x .limit) end)
-      × ((R : Resolver) → typeSize R (x .type) ≡ fieldAlone R x)
+      × ((R : Resolver) → typeSize R (x .type) ≡ fieldAlone R x) × (typeNodes (x .type) ≡ fieldNodes x)
   unfolding Told
   type-told e x end q = subst (Told f s at x end) e (h x end q)
 

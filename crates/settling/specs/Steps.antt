@@ -18,6 +18,7 @@ use Rattle.sizes.specs.declared.Size.{Size}
 use Rattle.sizes.specs.declared.Worked.{Worked}
 use Rattle.sizes.specs.declared.Worked.the-variants.{Sized, Over}
 use Rattle.sizes.specs.Elements.{countOf, Element, item, entry, limitedElement}
+use Rattle.sizes.specs.Nodes.{typeNodes, fieldNodes}
 use Rattle.sizes.specs.Sizes.{then, limitedSum, limitedProduct, Resolver, wrapSize, typeSize, fieldAlone, raised, widened, multiplied, withoutLargest}
 use Rattle.settling.specs.declared.Scope.{Scope}
 use Rattle.settling.specs.declared.Walked.{Walked}
@@ -164,22 +165,22 @@ plainAt ed names = do
   give (record { fieldName = 0; encoding = default; type = t; limit = l })
 
 -- of a field by itself: its size, whatever names come to, and the position after it; or its name, and that position; or where its type
--- stands, if it is plain
+-- stands, if it is plain. And its nodes: what is settled is one
 unfoldable pub Known : Frame → List ℕ → Field → (end : ℕ) → Settled → Type 0
-Known f s x end (Settled.Is w) = (w .next ≡ end) × ((R : Resolver) → w .worked ≡ fieldAlone R x)
-Known f s x end (Settled.Name i n) = (n ≡ end) × ((R : Resolver) → R i ≡ fieldAlone R x)
+Known f s x end (Settled.Is w) = (w .next ≡ end) × ((R : Resolver) → w .worked ≡ fieldAlone R x) × (fieldNodes x ≡ 1)
+Known f s x end (Settled.Name i n) = (n ≡ end) × ((R : Resolver) → R i ≡ fieldAlone R x) × (fieldNodes x ≡ 1)
 Known f s x end (Settled.At p) =
-    (y : Field) × (read (plainAt (f .edition) (f .names)) s p ≡ done y end) × ((R : Resolver) → fieldAlone R y ≡ fieldAlone R x)
+    (y : Field) × (read (plainAt (f .edition) (f .names)) s p ≡ done y end) × ((R : Resolver) → fieldAlone R y ≡ fieldAlone R x) × (fieldNodes y ≡ fieldNodes x)
 
 abbrev pub Settles : Frame → List ℕ → (at : ℕ) → Settled → Type 0
 Settles f s at r = (x : Field) (end : ℕ) → read (fieldAt (f .edition) (f .names)) s at ≡ done x end → Known f s x end r
 
--- of a plain field: its size, and the position after it; or that its type decides; or the elements that its limit bears on
+-- of a plain field: its size, and the position after it, one node; or that its type decides; or the elements that its limit bears on
 unfoldable pub Told : Frame → List ℕ → (at : ℕ) → Field → (end : ℕ) → Plain → Type 0
-Told f s at x end (Plain.Is w) = (w .next ≡ end) × ((R : Resolver) → w .worked ≡ fieldAlone R x)
+Told f s at x end (Plain.Is w) = (w .next ≡ end) × ((R : Resolver) → w .worked ≡ fieldAlone R x) × (fieldNodes x ≡ 1)
 Told f s at x end Plain.Type =
     (behind : ℕ) × (read (typeAt (f .names)) s at ≡ done (x .type) behind) × (read (limitAt (f .edition)) s behind ≡ done (x .limit) end)
-    × ((R : Resolver) → typeSize R (x .type) ≡ fieldAlone R x)
+    × ((R : Resolver) → typeSize R (x .type) ≡ fieldAlone R x) × (typeNodes (x .type) ≡ fieldNodes x)
 Told f s at x end (Plain.Limited l) = Bears (f .names) s x end l
 
 abbrev pub Plains : Frame → List ℕ → (at : ℕ) → Plain → Type 0

@@ -181,7 +181,7 @@ fn read_coded(image: &[u8], at: usize) -> Coded
 }
 
 // The type of a field.
-fn field_type(image: &[u8], at: usize, names: u64) -> Coded
+pub fn field_type(image: &[u8], at: usize, names: u64) -> Coded
     ensures { λ r. ⌜ Codes names (now (image .entry)) at r ⌝ }
 {
     match number::skip_below(image, at, names) {
@@ -201,13 +201,13 @@ pub fn pass_limit(image: &[u8], field: Walked, scope: Scope) -> Walked
 }
 
 // A field's limit in edition two, and the position after it.
-struct Limit {
-    most: u64,
-    next: usize,
+pub struct Limit {
+    pub most: u64,
+    pub next: usize,
 }
 
 // The limit behind a type.
-fn limit_behind(image: &[u8], at: usize, names: u64) -> Limit
+pub fn limit_behind(image: &[u8], at: usize, names: u64) -> Limit
     ensures { λ r. ⌜ LimitBehind names (now (image .entry)) at (r .most) (r .next) ⌝ }
 {
     match tree::read_tree(image, at, 32, Sort::Resolved, names) {

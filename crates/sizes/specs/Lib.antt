@@ -6,6 +6,8 @@ pub mod Names
 pub mod Check
 pub mod Lengths
 pub mod Demand
+pub mod Nodes
+pub mod Reached
 pub mod Steps
 pub mod Laws
 pub mod Rules
@@ -20,3 +22,4 @@ pub mod Table
 pub mod Whole
 pub mod Changed
 pub mod Examples
+pub mod ReachedExamples

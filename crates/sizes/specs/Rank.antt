@@ -170,7 +170,7 @@ module _ (next : ℕ → List ℕ) (n : ℕ) where
 -- ## The ranks of a schema's slots
 
 -- a missing slot has no parts
-none-missing : (S : Schema) (i : ℕ) → length (S .slots) ≤ i → contentOf S i ≡ anything
+pub none-missing : (S : Schema) (i : ℕ) → length (S .slots) ≤ i → contentOf S i ≡ anything
 unfolding contentOf contentIn slotOf
 none-missing S i h = rw (List·getD-eq-default (S .slots) empty h)
 

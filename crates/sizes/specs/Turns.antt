@@ -49,7 +49,7 @@ onward-made (accepted st) next final q = (st, refl, q)
 onward-made (refused o i) next final q = refused-not q
 
 -- what is stored there afterwards was put there, or was there before
-store-cases : (i : ℕ) (s : Size) (st : State) (j : ℕ) (s′ : Size) → store i s st j ≡ some s′ →
+pub store-cases : (i : ℕ) (s : Size) (st : State) (j : ℕ) (s′ : Size) → store i s st j ≡ some s′ →
     ((j ≡ i) × (s ≡ s′)) ⊎ (st j ≡ some s′)
 unfolding store
 store-cases i s st j s′ q = go (eqb j i) refl q
@@ -128,7 +128,7 @@ module _ (L : Layout) (S : Schema) where
   body-some r i (isMessage {m}) e = Option·some-ne-none (fieldsSize L r (m .fields)) e
   body-some r i (isUnion {u}) e = Option·some-ne-none (unionSize L r (u .variants)) e
 
-  own-some : (st : State) (i : ℕ) → Sizable (slotOf S i) → ownSize L S st i ≡ none → ⊥
+  pub own-some : (st : State) (i : ℕ) → Sizable (slotOf S i) → ownSize L S st i ≡ none → ⊥
   unfolding ownSize contentOf
   own-some st i z e = body-some (nameSize L S st (inserted i nothing)) i z e
 

@@ -45,7 +45,7 @@ wrap-slots mat3 js = refl
 wrap-slots mat4 js = refl
 
 -- the parts of a type are the slots that it leads to
-type-slots : (t : Tree) → typeParts t ≡ terminalSlots t
+pub type-slots : (t : Tree) → typeParts t ≡ terminalSlots t
 unfolding typeParts terminalSlots
 type-slots (leaf l) = leaf-slots l
 type-slots (wrap w t) = wrap-slots w (typeParts t) ∙ ap (λ (js : List ℕ). cond (followed w) js []) (type-slots t)

@@ -1,16 +1,12 @@
--- Fields by the code's turns. Assumes nothing.
+-- Fields by the code's turns, for any meanings of names. Assumes nothing.
 use Prim.Native.Nat.{ℕ, zero, suc, _-_, _≤_, _<_}
 use mathlib.Core.Path.{_≡_, refl, sym, ap, subst, _∙_}
 use mathlib.Core.List.{List, [], _∷_}
-use mathlib.Core.Bool.{Bool}
 use native.Mathlib.Omega.{arith}
 use Rattle.number.specs.Grammar.{count, number, Grammar, many, counted, Outcome, done, below, read}
 use Rattle.number.proofs.Reading.{Front, front, read-done, read-number, given, counted-on}
 use Rattle.slot.specs.Field.{Field, fieldAt, fieldsAt}
 use Rattle.slot.specs.declared.Edition.{Edition}
-use Rattle.image.specs.Schema.{Schema}
-use Rattle.image.specs.declared.Frame.{Frame}
-use Rattle.reader.specs.Reading.{schemaOf}
 use Rattle.sizes.specs.declared.Layout.{Layout}
 use Rattle.sizes.specs.declared.Size.{Size}
 use Rattle.sizes.specs.declared.Size.the-variants.{Fixed}
@@ -19,12 +15,10 @@ use Rattle.sizes.specs.declared.Worked.{Worked}
 use Rattle.sizes.specs.declared.Worked.the-variants.{Sized, Over}
 use Rattle.sizes.specs.Sizes.{then, limitedSum, laid, Resolver, fieldAlone, fieldSize, added, addFields, fieldsSize}
 use Rattle.sizes.specs.Steps.{then-made}
-use Rattle.sizes.specs.Names.{State}
 use Rattle.total.specs.Totals.{sizeOf, totalOf, sumOf, totalAfter, stepOf}
 use Rattle.total.specs.declared.Step.{Step}
 use Rattle.total.proofs.Totals.{size-back, stepped, stopped}
-use Rattle.wiresize.specs.Rows.{RowsHold}
-use Rattle.wiresize.specs.Asked.{Walks, resolver}
+use Rattle.wiresize.specs.Asked.{Walks}
 use Rattle.settling.specs.declared.Walked.{Walked}
 
 -- a run of nothing
@@ -65,12 +59,9 @@ total-done : (L : Layout) (R : Resolver) (total : Size) {xs : List Field} → []
 unfolding addFields
 total-done L R total e = rw (← e)
 
-module _ (L : Layout) (s : List ℕ) (f : Frame) (rows : List ℕ) (w : List Bool) (fieldCount first : ℕ) where
-  abbrev pub S : Schema
-  S = schemaOf (f .edition) s
-
+module _ (Means : Resolver → Type 0) (L : Layout) (s : List ℕ) (ed : Edition) (names fieldCount first : ℕ) where
   abbrev pub Whole : List Field → ℕ → Type 0
-  Whole fs e = read (many fieldCount (fieldAt (f .edition) (f .names))) s first ≡ done fs e
+  Whole fs e = read (many fieldCount (fieldAt ed names)) s first ≡ done fs e
 
   -- the fields from `here` on, onto the running total, come to what all fields come to
   pub record FieldsLeft (left here : ℕ) (total : List ℕ) : Type 0 where
@@ -78,32 +69,32 @@ module _ (L : Layout) (s : List ℕ) (f : Frame) (rows : List ℕ) (w : List Boo
     pub stands : total ≡ totalOf sum
     pub fields : List Field
     pub end : ℕ
-    pub reads : read (many left (fieldAt (f .edition) (f .names))) s here ≡ done fields end
+    pub reads : read (many left (fieldAt ed names)) s here ≡ done fields end
     pub ends : (fs : List Field) (e : ℕ) → Whole fs e → end ≡ e
-    pub totals : (fs : List Field) (e : ℕ) → Whole fs e → (st : State) → RowsHold S st rows
-        → addFields L (resolver L S st w) sum fields ≡ fieldsSize L (resolver L S st w) fs
+    pub totals : (fs : List Field) (e : ℕ) → Whole fs e → (R : Resolver) → Means R
+        → addFields L R sum fields ≡ fieldsSize L R fs
 
   pub fields-start : (fs : List Field) (e : ℕ) → Whole fs e → {total : List ℕ} → total ≡ totalOf (Fixed 0) → FieldsLeft fieldCount first total
   fields-start fs e q i =
-      record { sum = Fixed 0; stands = i; fields = fs; end = e; reads = q; ends = λ xs d p. same-thing q p .1; totals = λ xs d p st H. ap (fieldsSize L (resolver L S st w)) (same-thing q p .0) }
+      record { sum = Fixed 0; stands = i; fields = fs; end = e; reads = q; ends = λ xs d p. same-thing q p .1; totals = λ xs d p R H. ap (fieldsSize L R) (same-thing q p .0) }
 
   module _ {left here : ℕ} {total : List ℕ} (l : FieldsLeft left here total) where
-    pub next-field : 0 < left → Front (fieldAt (f .edition) (f .names)) s (left - 1) here (l .fields) (l .end)
-    next-field h = first-of (fieldAt (f .edition) (f .names)) s left here h (l .fields) (l .end) (l .reads)
+    pub next-field : 0 < left → Front (fieldAt ed names) s (left - 1) here (l .fields) (l .end)
+    next-field h = first-of (fieldAt ed names) s left here h (l .fields) (l .end) (l .reads)
 
     -- a field by itself, and the same as it is added
-    module _ (h : 0 < left) (r : Walked) (walks : Walks L (fieldAt (f .edition) (f .names)) fieldAlone s f rows w here r) {field : Worked}
+    module _ (h : 0 < left) (r : Walked) (walks : Walks Means (fieldAt ed names) fieldAlone s here r) {field : Worked}
         (lays : field ≡ then (r .worked) (laid L)) where
-      worked-as : (st : State) → RowsHold S st rows → field ≡ fieldSize L (resolver L S st w) (next-field h .first)
+      worked-as : (R : Resolver) → Means R → field ≡ fieldSize L R (next-field h .first)
       unfolding fieldSize
-      worked-as st H = lays ∙ ap (λ (x : Worked). then x (laid L)) (walks .works .worked _ _ (next-field h .here) st H)
+      worked-as R H = lays ∙ ap (λ (x : Worked). then x (laid L)) (walks .works .worked _ _ (next-field h .here) R H)
 
       module _ {total′ : List ℕ} {step : Step} (adds : (total′ ≡ totalAfter total (sumOf total field)) × (step ≡ stepOf (sumOf total field))) where
-        onward : {w′ : Worked} → then field (λ z. limitedSum (added (l .sum) z)) ≡ w′ → (st : State) → RowsHold S st rows
-            → addFields L (resolver L S st w) (l .sum) (l .fields) ≡ then w′ (λ y. addFields L (resolver L S st w) y (next-field h .others))
-        onward e st H =
+        onward : {w′ : Worked} → then field (λ z. limitedSum (added (l .sum) z)) ≡ w′ → (R : Resolver) → Means R
+            → addFields L R (l .sum) (l .fields) ≡ then w′ (λ y. addFields L R y (next-field h .others))
+        onward e R H =
             let g = next-field h in
-            ap (addFields L (resolver L S st w) (l .sum)) (g .whole) ∙ total-on L _ (l .sum) (g .first) (g .others) (worked-as st H) (sym e)
+            ap (addFields L R (l .sum)) (g .whole) ∙ total-on L _ (l .sum) (g .first) (g .others) (worked-as R H) (sym e)
 
         pub field-turn : step ≡ Step.On → FieldsLeft (left - 1) (r .next) total′
         unfolding then
@@ -117,24 +108,24 @@ module _ (L : Layout) (s : List ℕ) (f : Frame) (rows : List ℕ) (w : List Boo
               stands = a .2;
               fields = g .others;
               end = l .end;
-              reads = subst (λ (p : ℕ). read (many (left - 1) (fieldAt (f .edition) (f .names))) s p ≡ done (g .others) (l .end)) (sym n) (g .rest);
+              reads = subst (λ (p : ℕ). read (many (left - 1) (fieldAt ed names)) s p ≡ done (g .others) (l .end)) (sym n) (g .rest);
               ends = l .ends;
-              totals = λ fs d q st H. sym (onward (a .1) st H) ∙ l .totals fs d q st H;
+              totals = λ fs d q R H. sym (onward (a .1) R H) ∙ l .totals fs d q R H;
             }
 
-        pub field-over : {o : Operation} → step ≡ Step.Over o → (fs : List Field) (e : ℕ) → Whole fs e → (st : State) → RowsHold S st rows
-            → Over o ≡ fieldsSize L (resolver L S st w) fs
+        pub field-over : {o : Operation} → step ≡ Step.Over o → (fs : List Field) (e : ℕ) → Whole fs e → (R : Resolver) → Means R
+            → Over o ≡ fieldsSize L R fs
         unfolding then
-        field-over o fs e q st H = sym (onward (stopped (l .sum) (l .stands) field (adds .0) (adds .1) o) st H) ∙ l .totals fs e q st H
+        field-over o fs e q R H = sym (onward (stopped (l .sum) (l .stands) field (adds .0) (adds .1) o) R H) ∙ l .totals fs e q R H
 
     module _ (h : left ≤ 0) (fs : List Field) (e : ℕ) (q : Whole fs e) where
       pub fields-end : here ≡ e
-      fields-end = none-left (fieldAt (f .edition) (f .names)) s left here h (l .fields) (l .end) (l .reads) .1 ∙ l .ends fs e q
+      fields-end = none-left (fieldAt ed names) s left here h (l .fields) (l .end) (l .reads) .1 ∙ l .ends fs e q
 
-      pub fields-sum : {z : Size} → z ≡ sizeOf total → (st : State) → RowsHold S st rows → Sized z ≡ fieldsSize L (resolver L S st w) fs
-      fields-sum c st H =
+      pub fields-sum : {z : Size} → z ≡ sizeOf total → (R : Resolver) → Means R → Sized z ≡ fieldsSize L R fs
+      fields-sum c R H =
           ap Sized (c ∙ ap sizeOf (l .stands) ∙ size-back (l .sum))
-          ∙ sym (total-done L (resolver L S st w) (l .sum) (none-left (fieldAt (f .edition) (f .names)) s left here h (l .fields) (l .end) (l .reads) .0)) ∙ l .totals fs e q st H
+          ∙ sym (total-done L R (l .sum) (none-left (fieldAt ed names) s left here h (l .fields) (l .end) (l .reads) .0)) ∙ l .totals fs e q R H
 
 -- the fields behind their count
 pub fields-behind : (s : List ℕ) (ed : Edition) (names at : ℕ) {count first : ℕ} → below 65537 s at ≡ done count first → {fs : List Field} {e : ℕ}

@@ -96,7 +96,7 @@ module _ (names : ℕ) (s : List ℕ) (at : ℕ) (x : Head) (seen : x ≡ shape 
       go (Head.Generic v m) e f = absurd f
       go (Head.Refused r m) e f = absurd f
 
-not-six : (w : Wrap) → wrapKind w ≡ 6 → ⊥
+pub not-six : (w : Wrap) → wrapKind w ≡ 6 → ⊥
 not-six optional e = omega arith
 not-six array e = omega arith
 not-six setOf e = omega arith

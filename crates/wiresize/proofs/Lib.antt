@@ -7,3 +7,4 @@ pub mod Insides
 pub mod Fields
 pub mod Variants
 pub mod Own
+pub mod Nodes

@@ -34,7 +34,7 @@ use Rattle.sizes.specs.Names.{terminal, anything, contentIn, contentOf, State, 
 use Rattle.sizes.specs.Check.{sizeRow, slotRow}
 use Rattle.sizes.specs.Fuel.{name-obeys, inserted-is}
 use Rattle.wiresize.specs.Rows.{rowBy, rowAt, RowsHold}
-use Rattle.wiresize.specs.Asked.{marked, Ready, resolver}
+use Rattle.wiresize.specs.Asked.{marked, Ready, resolver, Meant, Names}
 use Rattle.wiresize.specs.declared.Row.{Row}
 use Rattle.wiresize.proofs.Ends.{newtypes-end}
 
@@ -65,7 +65,7 @@ eight-times n h = let t = le-ltb limit (n * 8) (omega arith) in rw t (ap (λ (k 
 -- ## Slots that were read
 
 module _ (s starts : List ℕ) (f : Frame) (p : Promise s starts f) (i : ℕ) (h : i < f .slots) where
-  stored-few : (g : Flags) → slotOf (schemaOf (f .edition) s) i ≡ flags g → g .storedBytes ≤ 255
+  pub stored-few : (g : Flags) → slotOf (schemaOf (f .edition) s) i ≡ flags g → g .storedBytes ≤ 255
   unfolding slotBodyAt flagsAt read
   stored-few g e =
       let r = p .slots i h in
@@ -106,7 +106,7 @@ module _ (s starts : List ℕ) (f : Frame) (p : Promise s starts f) (i : ℕ) (h
 
 -- ## Rows
 
-abbrev rowIn : List ℕ → Row
+abbrev pub rowIn : List ℕ → Row
 rowIn l = rowBy (getD l 0 0) (getD l 1 0) (getD l 2 0)
 
 known-inj : {x y : Worked} → Row.Known x ≡ Row.Known y → x ≡ y
@@ -129,7 +129,7 @@ not-stored (some (Fixed b)) q = none-known (sym q)
 not-stored (some (Bounded l h)) q = none-known (sym q)
 not-stored (some (Open l)) q = none-known (sym q)
 
-row-of : (S : Schema) (st : State) (rows : List ℕ) → RowsHold S st rows → (i : ℕ) → i < length (S .slots)
+pub row-of : (S : Schema) (st : State) (rows : List ℕ) → RowsHold S st rows → (i : ℕ) → i < length (S .slots)
     → rowAt rows i ≡ rowIn (slotRow S st i (slotOf S i))
 row-of S st rows H i h =
     let z : 3 * i + 0 ≡ 3 * i = omega arith in
@@ -139,7 +139,7 @@ row-of S st rows H i h =
     rw (p, q, r)
 
 -- what a known row says is the slot's size, whatever its parts come to
-row-known : (L : Layout) (S : Schema) (st : State) (i : ℕ) (beside inside : Resolver) (y : Worked) (x : Slot) → ((g : Flags) → x ≡ flags g → g .storedBytes ≤ 255)
+pub row-known : (L : Layout) (S : Schema) (st : State) (i : ℕ) (beside inside : Resolver) (y : Worked) (x : Slot) → ((g : Flags) → x ≡ flags g → g .storedBytes ≤ 255)
     → rowIn (slotRow S st i x) ≡ Row.Known y → contentSize L (st i) beside inside (contentIn S i x) ≡ y
 unfolding rowBy slotRow contentSize contentIn
 row-known L S st i b n y empty few q = none-known q
@@ -154,7 +154,7 @@ row-known L S st i b n y (trait t) few q = none-known q
 row-known L S st i b n y (impl m) few q = none-known q
 
 -- a slot without a row that is no message, union or newtype
-row-other : (L : Layout) (S : Schema) (st : State) (i : ℕ) (beside inside : Resolver) (x : Slot) → (slotKind x ≡ 1 → ⊥) → (slotKind x ≡ 4 → ⊥) → (slotKind x ≡ 5 → ⊥)
+pub row-other : (L : Layout) (S : Schema) (st : State) (i : ℕ) (beside inside : Resolver) (x : Slot) → (slotKind x ≡ 1 → ⊥) → (slotKind x ≡ 4 → ⊥) → (slotKind x ≡ 5 → ⊥)
     → rowIn (slotRow S st i x) ≡ Row.None → contentSize L (st i) beside inside (contentIn S i x) ≡ Sized (Open 0)
 unfolding rowBy slotRow contentSize contentIn
 row-other L S st i b n empty u v t q = refl
@@ -169,6 +169,12 @@ row-other L S st i b n (trait r) u v t q = refl
 row-other L S st i b n (impl m) u v t q = refl
 
 -- ## A name
+
+pub meant : {L : Layout} {S : Schema} {rows : List ℕ} {w : List Bool} (st : State) → RowsHold S st rows → Meant L S rows w (resolver L S st w)
+meant st H = record { state = st; holds = H; is = refl }
+
+pub name-meant : {L : Layout} {S : Schema} {rows : List ℕ} {w : List Bool} {i : ℕ} {r : Worked} → Names L S rows w i r → (R : Resolver) → Meant L S rows w R → r ≡ R i
+name-meant {i = i} n R m = n .worked (m .state) (m .holds) ∙ sym (ap (λ (Q : Resolver). Q i) (m .is))
 
 module _ (L : Layout) (s starts : List ℕ) (f : Frame) (rows : List ℕ) (w : List Bool) (ready : Ready s starts f rows w) (st : State) (H : RowsHold (schemaOf (f .edition) s) st rows) (i : ℕ) where
   obeys : resolver L (schemaOf (f .edition) s) st w i ≡ nameRule L (schemaOf (f .edition) s) st (nameSize L (schemaOf (f .edition) s) st) (marked w) i

@@ -32,7 +32,7 @@ shape-place sized n = refl
 shape-place (applied v) n = refl
 
 module _ (names : ℕ) (s : List ℕ) (at : ℕ) where
-  head-forward : (node : Node) (n : ℕ) → read (headAt Resolved names) s at ≡ done node n → (at < n) × (n ≤ length s)
+  pub head-forward : (node : Node) (n : ℕ) → read (headAt Resolved names) s at ≡ done node n → (at < n) × (n ≤ length s)
   unfolding headAt
   head-forward node n e =
       let a = read-done (number kind 17) (bodyAt Resolved names) s at node n e in

@@ -7,9 +7,9 @@ use mathlib.Core.Option.{Option, none, some}
 use lib.ListN.{length, getD}
 use Rattle.number.specs.Grammar.{Grammar, many, done, read}
 use Rattle.slot.specs.Field.{fieldsAt}
+use Rattle.slot.specs.declared.Edition.{Edition}
 use Rattle.image.specs.Schema.{Schema}
 use Rattle.image.specs.declared.Frame.{Frame}
-use Rattle.reader.specs.Reading.{schemaOf}
 use Rattle.reader.specs.Promise.{Promise}
 use Rattle.sizes.specs.declared.Layout.{Layout}
 use Rattle.sizes.specs.declared.Size.{Size}
@@ -47,19 +47,25 @@ pub record Asked {A : Type 0} (g : Grammar A) (s starts : List ℕ) (f : Frame) 
 abbrev pub resolver : Layout → Schema → State → List Bool → Resolver
 resolver L S st w = nameSize L S st (marked w)
 
--- the size of what stands there, whatever the sizes stored, if the table holds them
-pub record WorksOut (L : Layout) {A : Type 0} (g : Grammar A) (size : Resolver → A → Worked) (s : List ℕ) (f : Frame) (rows : List ℕ) (w : List Bool) (at : ℕ) (r : Worked) : Type 0 where
-  pub worked : (x : A) (end : ℕ) → read g s at ≡ done x end → (st : State) → RowsHold (schemaOf (f .edition) s) st rows → r ≡ size (resolver L (schemaOf (f .edition) s) st w) x
+-- a meaning of names: what they come to while slots are marked, whatever the sizes stored, if the table holds them
+pub record Meant (L : Layout) (S : Schema) (rows : List ℕ) (w : List Bool) (R : Resolver) : Type 0 where
+  pub state : State
+  pub holds : RowsHold S state rows
+  pub is : R ≡ resolver L S state w
+
+-- the size of what stands there, for each meaning of names that is allowed
+pub record WorksOut (Means : Resolver → Type 0) {A : Type 0} (g : Grammar A) (size : Resolver → A → Worked) (s : List ℕ) (at : ℕ) (r : Worked) : Type 0 where
+  pub worked : (x : A) (end : ℕ) → read g s at ≡ done x end → (R : Resolver) → Means R → r ≡ size R x
 
 -- and, where it has one, the position after it
-pub record Walks (L : Layout) {A : Type 0} (g : Grammar A) (size : Resolver → A → Worked) (s : List ℕ) (f : Frame) (rows : List ℕ) (w : List Bool) (at : ℕ) (r : Walked) : Type 0 where
+pub record Walks (Means : Resolver → Type 0) {A : Type 0} (g : Grammar A) (size : Resolver → A → Worked) (s : List ℕ) (at : ℕ) (r : Walked) : Type 0 where
   pub next : (x : A) (end : ℕ) → read g s at ≡ done x end → (z : Size) → r .worked ≡ Sized z → r .next ≡ end
-  pub works : WorksOut L g size s f rows w at (r .worked)
+  pub works : WorksOut Means g size s at (r .worked)
 
 -- so many elements at most, and the position after the field
-pub record Counts (L : Layout) (s : List ℕ) (f : Frame) (rows : List ℕ) (w : List Bool) (l : Limited) (r : Walked) : Type 0 where
+pub record Counts (Means : Resolver → Type 0) (s : List ℕ) (names : ℕ) (l : Limited) (r : Walked) : Type 0 where
   pub next : r .next ≡ l .next
-  pub works : WorksOut L (elementAt (f .names) (l .kind)) (λ R e. then (elementSize R e) (λ z. upTo (l .most) (largest z))) s f rows w (l .body) (r .worked)
+  pub works : WorksOut Means (elementAt names (l .kind)) (λ R e. then (elementSize R e) (λ z. upTo (l .most) (largest z))) s (l .body) (r .worked)
 
 -- variants that stand one behind the other: their extremes, and of one alone its size
 abbrev pub extremesIn : Varied → Worked
@@ -70,9 +76,9 @@ abbrev pub lastIn : Varied → Worked
 lastIn (Varied.Sized extremes last) = Sized last
 lastIn (Varied.Over o) = Over o
 
-pub record Varies (L : Layout) (count : ℕ) (s : List ℕ) (f : Frame) (rows : List ℕ) (w : List Bool) (at : ℕ) (r : Varied) : Type 0 where
-  pub extremes : WorksOut L (many count (fieldsAt (f .edition) (f .names))) (λ R. addVariants L R (Bounded mark 0)) s f rows w at (extremesIn r)
-  pub alone : count ≡ 1 → WorksOut L (fieldsAt (f .edition) (f .names)) (fieldsSize L) s f rows w at (lastIn r)
+pub record Varies (Means : Resolver → Type 0) (L : Layout) (s : List ℕ) (ed : Edition) (names count at : ℕ) (r : Varied) : Type 0 where
+  pub extremes : WorksOut Means (many count (fieldsAt ed names)) (λ R. addVariants L R (Bounded mark 0)) s at (extremesIn r)
+  pub alone : count ≡ 1 → WorksOut Means (fieldsAt ed names) (fieldsSize L) s at (lastIn r)
 
 pub record Names (L : Layout) (S : Schema) (rows : List ℕ) (w : List Bool) (id : ℕ) (r : Worked) : Type 0 where
   pub worked : (st : State) → RowsHold S st rows → r ≡ resolver L S st w id

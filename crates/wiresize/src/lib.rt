@@ -23,7 +23,7 @@ ghost use Rattle.reader.specs.Promise.{Promise};
 ghost use Rattle.sizes.specs.Sizes.{typeSize, fieldAlone, fieldsSize, unionSize};
 ghost use Rattle.settling.specs.Steps.{frameOf, elementAt, plainAt};
 ghost use Rattle.wiresize.specs.Rows.{rowAt};
-ghost use Rattle.wiresize.specs.Asked.{Asked, Ready, Walks, WorksOut, Counts, Varies, Names, Held, Owns, turnedAs};
+ghost use Rattle.wiresize.specs.Asked.{Asked, Ready, Meant, Walks, WorksOut, Counts, Varies, Names, Held, Owns, turnedAs};
 
 // What a row of the size table says of a name.
 pub enum Row {
@@ -45,7 +45,7 @@ pub enum Turned {
 }
 
 // What the table says of a slot: nothing of a message or union that has no stored size yet, nor of other slots.
-fn known_size(rows: &[u64], slot: usize) -> Row
+pub fn known_size(rows: &[u64], slot: usize) -> Row
     requires { ⌜ 3 * slot + 3 ≤ length (now rows) ⌝ }
     ensures { λ r. ⌜ r ≡ rowAt (now (rows .entry)) slot ⌝ }
 {
@@ -73,7 +73,7 @@ fn compute_resolved_type_wire_size(
     working: &[bool; 512],
 ) -> Walked
     requires { ⌜ Asked (typeAt (scope .names)) (now image) (now starts) (frameOf scope) (now rows) (now working) at ⌝ }
-    ensures { λ r. ⌜ Walks (scope .layout) (typeAt (scope .names)) typeSize (now (image .entry)) (frameOf scope) (now (rows .entry)) (now (working .entry)) at r ⌝ }
+    ensures { λ r. ⌜ Walks (Meant (scope .layout) (schemaOf (scope .edition) (now (image .entry))) (now (rows .entry)) (now (working .entry))) (typeAt (scope .names)) typeSize (now (image .entry)) at r ⌝ }
 {
     let names = scope.names;
     let head = tree::read_head(image, at, Sort::Resolved, names);
@@ -162,7 +162,7 @@ fn compute_type_wire_size(
     working: &[bool; 512],
 ) -> Walked
     requires { ⌜ Asked (fieldAt (scope .edition) (scope .names)) (now image) (now starts) (frameOf scope) (now rows) (now working) at ⌝ }
-    ensures { λ r. ⌜ Walks (scope .layout) (fieldAt (scope .edition) (scope .names)) fieldAlone (now (image .entry)) (frameOf scope) (now (rows .entry)) (now (working .entry)) at r ⌝ }
+    ensures { λ r. ⌜ Walks (Meant (scope .layout) (schemaOf (scope .edition) (now (image .entry))) (now (rows .entry)) (now (working .entry))) (fieldAt (scope .edition) (scope .names)) fieldAlone (now (image .entry)) at r ⌝ }
 {
     match settling::settle(image, at, scope) {
         Settled::Is(field) => field,
@@ -184,7 +184,7 @@ fn plain_size(
     working: &[bool; 512],
 ) -> Walked
     requires { ⌜ Asked (plainAt (scope .edition) (scope .names)) (now image) (now starts) (frameOf scope) (now rows) (now working) at ⌝ }
-    ensures { λ r. ⌜ Walks (scope .layout) (plainAt (scope .edition) (scope .names)) fieldAlone (now (image .entry)) (frameOf scope) (now (rows .entry)) (now (working .entry)) at r ⌝ }
+    ensures { λ r. ⌜ Walks (Meant (scope .layout) (schemaOf (scope .edition) (now (image .entry))) (now (rows .entry)) (now (working .entry))) (plainAt (scope .edition) (scope .names)) fieldAlone (now (image .entry)) at r ⌝ }
 {
     match settling::settle_plain(image, at, scope) {
         Plain::Is(field) => field,
@@ -206,7 +206,7 @@ fn limited_size(
     working: &[bool; 512],
 ) -> Walked
     requires { ⌜ Asked (elementAt (scope .names) (elements .kind)) (now image) (now starts) (frameOf scope) (now rows) (now working) (elements .body) ⌝ }
-    ensures { λ r. ⌜ Counts (scope .layout) (now (image .entry)) (frameOf scope) (now (rows .entry)) (now (working .entry)) elements r ⌝ }
+    ensures { λ r. ⌜ Counts (Meant (scope .layout) (schemaOf (scope .edition) (now (image .entry))) (now (rows .entry)) (now (working .entry))) (now (image .entry)) (scope .names) elements r ⌝ }
 {
     let most = elements.most;
     let next = elements.next;
@@ -244,7 +244,7 @@ fn variants_size(
     count: u64,
 ) -> Varied
     requires { ⌜ Asked (many count (fieldsAt (scope .edition) (scope .names))) (now image) (now starts) (frameOf scope) (now rows) (now working) at × (layout ≡ scope .layout) ⌝ }
-    ensures { λ r. ⌜ Varies (scope .layout) count (now (image .entry)) (frameOf scope) (now (rows .entry)) (now (working .entry)) at r ⌝ }
+    ensures { λ r. ⌜ Varies (Meant (scope .layout) (schemaOf (scope .edition) (now (image .entry))) (now (rows .entry)) (now (working .entry))) (scope .layout) (now (image .entry)) (scope .edition) (scope .names) count at r ⌝ }
 {
     // The smallest starts above any that a variant can have.
     let mut extremes = Size::Bounded(18446744073709551615, 0);
@@ -293,7 +293,7 @@ fn compute_message_wire_size(
     layout: Layout,
 ) -> Worked
     requires { ⌜ Asked (fieldsAt (scope .edition) (scope .names)) (now image) (now starts) (frameOf scope) (now rows) (now working) at × (layout ≡ scope .layout) ⌝ }
-    ensures { λ r. ⌜ WorksOut (scope .layout) (fieldsAt (scope .edition) (scope .names)) (fieldsSize (scope .layout)) (now (image .entry)) (frameOf scope) (now (rows .entry)) (now (working .entry)) at r ⌝ }
+    ensures { λ r. ⌜ WorksOut (Meant (scope .layout) (schemaOf (scope .edition) (now (image .entry))) (now (rows .entry)) (now (working .entry))) (fieldsAt (scope .edition) (scope .names)) (fieldsSize (scope .layout)) (now (image .entry)) at r ⌝ }
 {
     match variants_size(image, starts, scope, rows, at, working, layout, 1) {
         Varied::Sized(_, last) => Worked::Sized(last),
@@ -312,7 +312,7 @@ fn compute_union_wire_size(
     layout: Layout,
 ) -> Worked
     requires { ⌜ Asked (counted (fieldsAt (scope .edition) (scope .names))) (now image) (now starts) (frameOf scope) (now rows) (now working) at × (layout ≡ scope .layout) ⌝ }
-    ensures { λ r. ⌜ WorksOut (scope .layout) (counted (fieldsAt (scope .edition) (scope .names))) (unionSize (scope .layout)) (now (image .entry)) (frameOf scope) (now (rows .entry)) (now (working .entry)) at r ⌝ }
+    ensures { λ r. ⌜ WorksOut (Meant (scope .layout) (schemaOf (scope .edition) (now (image .entry))) (now (rows .entry)) (now (working .entry))) (counted (fieldsAt (scope .edition) (scope .names))) (unionSize (scope .layout)) (now (image .entry)) at r ⌝ }
 {
     let Ranged::Value(count, first) = number::read_below(image, at, 65537) else {
         return Worked::Over(Operation::Sum);

@@ -20,13 +20,13 @@ close-spec =
     (tie.spec
     Inv-loop
     μ-loop
-    (λ c. (omega arith, closed-start _ _ (c .before .pre .0)))
+    (λ c. (omega arith, closed-start _ _))
     (λ c κs. search needs)
     (λ c. omega arith)
     (λ c. omega arith)
     (λ c. let t = c .before .before .before .before in (
       omega arith,
-      closed-on _ _ _ _ (t .before .before .before .pre .1) (t .before .loop .inv .1) _ (t .loop-test .taken)
+      closed-on _ _ _ _ (t .before .before .before .pre .0) (t .before .before .before .pre .1) (t .before .loop .inv .1) _ (t .loop-test .taken)
           (c .before .before .pass .ensures),
     ))
     (λ c. search needs)

@@ -18,7 +18,7 @@ join-rows-spec =
     (tie.spec
     Inv-loop
     μ-loop
-    (λ c. (omega arith, words-start _ _ _ (c .pre .0)))
+    (λ c. (omega arith, words-start _ _ _))
     (λ c. omega arith)
     (λ c. omega arith)
     (λ c. omega arith)
@@ -32,6 +32,6 @@ join-rows-spec =
     (λ c. omega arith)
     (λ c. omega arith)
     (λ c. let t = c .before .before in let s = t .before .before in
-    (omega arith, words-on _ _ _ _ _ (t .before .loop .inv .1) (s .pre .1) (s .pre .2) (t .loop-test .taken)))
+    (omega arith, words-on _ _ _ _ _ (t .before .loop .inv .1) (s .pre .0) (s .pre .1) (t .loop-test .taken)))
     (λ c. search needs)
     (λ c. words-end _ _ _ _ _ (c .loop-test .left) (c .before .loop .inv .1)))

@@ -12,4 +12,4 @@ lowest-on-loop-spec =
     (λ c κs. search needs)
     (λ c κs. search needs)
     (λ c. search needs)
-    (λ c. let d = c .before .before .before .before in (lowest-is _ _ _ _ (search needs) (d .close .ensures) _ refl (c .lowest-mark .ensures), d .close .ensures)))
+    (λ c. let d = c .before .before .before .before in (lowest-is _ _ _ _ (search needs) (search needs) (d .close .ensures) _ refl (c .lowest-mark .ensures), d .close .ensures)))

@@ -16,5 +16,5 @@ mark-spec =
     (λ c. search needs)
     (λ c. search needs)
     (λ c. search needs)
-    (λ c. marked _ _ _ (c .before .before .pre .0) (c .before .before .pre .1) (c .before .if1 .taken))
-    (λ c. unmarked _ _ _ (c .before .pre .0) (c .if1 .left)))
+    (λ c. marked _ _ _ (c .before .before .pre) (c .before .if1 .taken))
+    (λ c. unmarked _ _ _ (c .if1 .left)))

@@ -22,8 +22,8 @@ pass-spec =
     μ-loop
     (λ c κs. search needs)
     (λ c. search needs)
-    (λ c. round-none _ _ _ (c .before .before .before .before .pre .0) (c .before .row-is-empty .ensures .0 (c .if1 .taken)))
-    (λ c. (omega arith, rows-start _ _ (c .before .before .before .before .pre .0)))
+    (λ c. round-none _ _ _ (c .before .row-is-empty .ensures .0 (c .if1 .taken)))
+    (λ c. (omega arith, rows-start _ _))
     (λ c κs. search needs)
     (λ c κs. search needs)
     (λ c. omega arith)
@@ -31,8 +31,8 @@ pass-spec =
     (λ c. let r = c .before .before .before .before .loop .inv .1 in let has = sym (c .before .leads .ensures) in (
       omega arith,
       ⊎-elim
-          (λ w. took _ _ _ _ r (omega arith) _ _ (has ∙ w .0 .taken) (w .2 .ensures) (w .5))
-          (λ w. kept _ _ _ _ r (omega arith) _ (has ∙ w .0 .left) (w .1)) (c .if2 .came),
+          (λ w. took _ _ _ _ r (omega arith) (omega arith) _ _ (has ∙ w .0 .taken) (w .2 .ensures) (w .5))
+          (λ w. kept _ _ _ _ r (omega arith) (omega arith) _ (has ∙ w .0 .left) (w .1)) (c .if2 .came),
     ))
     (λ c. search needs)
     (λ c. let z : c .before .loop .i ≡ c .before .before .before .before .before .before .args .count = omega arith in

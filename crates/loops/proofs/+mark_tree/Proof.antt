@@ -60,13 +60,13 @@ mark-tree-returns-3 : (t : ℕ) → mark-tree-lts.Need-returns-3 (mark-tree-know
 mark-tree-returns-3 t c = walk-one _ _ _ _ _ _ _ _ (c .before .before .before .before .before .before .before .before .before .before .if1 .left) _ _ _ _ (sym (c .before .before .before .before .before .before .before .before .before .read-head .ensures) ∙ c .before .before .before .before .before .before .before .kind2 .given .1) (sym (c .before .before .before .before .if2 .taken) ∙ c .before .before .before .before .before .goes-in .ensures) (c .before .before .mark-tree .ensures)
 
 mark-tree-returns-4 : (t : ℕ) → mark-tree-lts.Need-returns-4 (mark-tree-known t) (mark-tree-at t) mark-tree.Post
-mark-tree-returns-4 t c = walk-past-one _ _ _ _ _ _ _ _ (c .before .before .before .before .before .before .before .before .if1 .left) _ _ _ (c .before .before .before .before .before .before .before .before .before .before .before .before .pre .1 .0) (sym (c .before .before .before .before .before .before .before .read-head .ensures) ∙ c .before .before .before .before .before .kind2 .given .1) (sym (c .before .before .if2 .left) ∙ c .before .before .before .goes-in .ensures) (c .place-of .ensures ∙ ap placeOf (c .before .read-tree .ensures))
+mark-tree-returns-4 t c = walk-past-one _ _ _ _ _ _ _ _ (c .before .before .before .before .before .before .before .before .if1 .left) _ _ _ (sym (c .before .before .before .before .before .before .before .read-head .ensures) ∙ c .before .before .before .before .before .kind2 .given .1) (sym (c .before .before .if2 .left) ∙ c .before .before .before .goes-in .ensures) (c .place-of .ensures ∙ ap placeOf (c .before .read-tree .ensures))
 
 mark-tree-returns-5 : (t : ℕ) → mark-tree-lts.Need-returns-5 (mark-tree-known t) (mark-tree-at t) mark-tree.Post
 mark-tree-returns-5 t c = walk-two _ _ _ _ _ _ _ _ (c .before .before .before .before .before .before .before .before .before .before .before .before .before .before .if1 .left) _ _ _ _ _ _ (sym (c .before .before .before .before .before .before .before .before .before .before .before .before .before .read-head .ensures) ∙ c .before .before .before .before .before .before .before .before .before .before .before .kind3 .given .1) (sym (c .before .before .before .before .before .before .before .before .if3 .taken) ∙ c .before .before .before .before .before .before .before .before .before .goes-in2 .ensures) (c .before .before .before .before .before .before .mark-tree2 .ensures) (c .before .before .mark-tree3 .ensures)
 
 mark-tree-returns-6 : (t : ℕ) → mark-tree-lts.Need-returns-6 (mark-tree-known t) (mark-tree-at t) mark-tree.Post
-mark-tree-returns-6 t c = walk-past-two _ _ _ _ _ _ _ _ (c .before .before .before .before .before .before .before .before .before .before .if1 .left) _ _ _ _ (c .before .before .before .before .before .before .before .before .before .before .before .before .before .before .pre .1 .0) (sym (c .before .before .before .before .before .before .before .before .before .read-head .ensures) ∙ c .before .before .before .before .before .before .before .kind3 .given .1) (sym (c .before .before .before .before .if3 .left) ∙ c .before .before .before .before .before .goes-in2 .ensures) (c .before .before .place-of2 .ensures ∙ ap placeOf (c .before .before .before .read-tree2 .ensures)) (c .place-of3 .ensures ∙ ap placeOf (c .before .read-tree3 .ensures))
+mark-tree-returns-6 t c = walk-past-two _ _ _ _ _ _ _ _ (c .before .before .before .before .before .before .before .before .before .before .if1 .left) _ _ _ _ (sym (c .before .before .before .before .before .before .before .before .before .read-head .ensures) ∙ c .before .before .before .before .before .before .before .kind3 .given .1) (sym (c .before .before .before .before .if3 .left) ∙ c .before .before .before .before .before .goes-in2 .ensures) (c .before .before .place-of2 .ensures ∙ ap placeOf (c .before .before .before .read-tree2 .ensures)) (c .place-of3 .ensures ∙ ap placeOf (c .before .read-tree3 .ensures))
 
 mark-tree-returns-7 : (t : ℕ) → mark-tree-lts.Need-returns-7 (mark-tree-known t) (mark-tree-at t) mark-tree.Post
 mark-tree-returns-7 t c = walk-sized _ _ _ _ _ _ _ _ (c .before .before .before .before .before .before .before .before .before .before .if1 .left) _ _ _ _ (sym (c .before .before .before .before .before .before .before .before .before .read-head .ensures) ∙ c .before .before .before .before .before .before .before .body .given .1) (c .before .before .before .before .mark-tree4 .ensures) (c .place-of4 .ensures ∙ ap placeOf (c .before .skip-whole .ensures))

@@ -20,8 +20,8 @@ fill-rows-spec =
     (tie.spec
     Inv-loop
     μ-loop
-    (λ c ed p. rows-start _ _ _ _ _ _ _ _ (c .before .before .before .before .pre .0))
-    (λ c κs. let q = c .before .before .before .before .before .before .before .pre .1 in (c .before .before .loop .inv (q .0) (q .1) .1 .long, omega (arith, q .1 .few)))
+    (λ c ed p. rows-start _ _ _ _ _ _ _ _)
+    (λ c κs. let q = c .before .before .before .before .before .before .before .pre in omega (arith, q .0, c .before .before .loop .inv (q .1 .0) (q .1 .1) .1 .long))
     (λ c. omega arith)
     (λ c. omega arith)
     (λ c ed p. rows-on _ _ _ _ _ _ _ p _ _ _ _ (c .before .before .before .before .loop-test .taken) (c .before .before .before .before .before .loop .inv ed p) (c .before .before .slot-row .ensures))

@@ -9,7 +9,7 @@ use Rattle.loops.proofs.mark_generic.Tie as tie
 
 returns : tie.Need-returns
 unfolding nameSlots
-returns c = rw (c .enum-told .given .1) (led-none _ (c .before .before .before .before .pre .0) refl)
+returns c = rw (c .enum-told .given .1) (led-none _ refl)
 
 pub mark-generic-spec : {M : Type 1} → statement M
 mark-generic-spec =
@@ -25,5 +25,5 @@ mark-generic-spec =
     returns
     (λ c. search needs)
     (λ c. rw (c .before .before .before .before .before .before .before .enum-told2 .given .1) (led-one _ (c .before .before .mark .ensures) (name-found (c .before .before .before .before .before .before .before .before .before .before .before .args .finds .now) (c .before .before .before .before .before .before .before .before .before .before .before .args .name) (omega arith))))
-    (λ c. rw (c .before .before .before .enum-told2 .given .1) (led-none _ (c .before .before .before .before .before .before .before .pre .0) (name-none (c .before .before .before .before .before .before .before .args .finds .now) (c .before .before .before .before .before .before .before .args .name) (omega arith))))
-    (λ c. rw (c .before .enum-told2 .given .1) (led-none _ (c .before .before .before .before .before .pre .0) (name-out _ _ (c .if1 .left)))))
+    (λ c. rw (c .before .before .before .enum-told2 .given .1) (led-none _ (name-none (c .before .before .before .before .before .before .before .args .finds .now) (c .before .before .before .before .before .before .before .args .name) (omega arith))))
+    (λ c. rw (c .before .enum-told2 .given .1) (led-none _ (name-out _ _ (c .if1 .left)))))

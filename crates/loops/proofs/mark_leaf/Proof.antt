@@ -8,7 +8,7 @@ use Rattle.loops.proofs.mark_leaf.Tie as tie
 
 returns-3 : tie.Need-returns-3
 unfolding treeSlots genericSlots
-returns-3 c finds l k v = rw (c .enum-told2 .given .1) (led-none _ (c .before .before .before .pre .0) refl)
+returns-3 c finds l k v = rw (c .enum-told2 .given .1) (led-none _ refl)
 
 pub mark-leaf-spec : {M : Type 1} → statement M
 mark-leaf-spec =
@@ -19,5 +19,5 @@ mark-leaf-spec =
     (λ c. search needs)
     (λ c. search needs)
     (λ c finds l k v. rw (c .before .before .before .before .before .enum-told .given .1) (led-one _ (c .before .before .mark .ensures) (leaf-named finds l _ (k ∙ c .before .before .before .before .match2 .keys1) v)))
-    (λ c finds l k v. rw (c .before .enum-told .given .1) (led-none _ (c .before .before .before .before .pre .0) (leaf-none finds l (λ e. c .match2 .rest .1 (sym k ∙ e)))))
+    (λ c finds l k v. rw (c .before .enum-told .given .1) (led-none _ (leaf-none finds l (λ e. c .match2 .rest .1 (sym k ∙ e)))))
     returns-3)

@@ -13,4 +13,4 @@ slot-row-spec =
     (λ c κs. search needs)
     (λ c. search needs)
     (λ c. row-of _ _ _ _ _ _ _ _ (c .before .before .before .before .before .before .is-lead .ensures) (c .before .before .before .before .before .if1 .taken) _ _ _ (c .before .before .before .before .slot-inside .ensures) (c .before .before .mark-tree .ensures))
-    (λ c. row-none _ _ _ _ _ _ _ _ (c .before .is-lead .ensures) (c .if1 .left) (c .before .before .before .before .before .before .pre .0)))
+    (λ c. row-none _ _ _ _ _ _ _ _ (c .before .is-lead .ensures) (c .if1 .left)))

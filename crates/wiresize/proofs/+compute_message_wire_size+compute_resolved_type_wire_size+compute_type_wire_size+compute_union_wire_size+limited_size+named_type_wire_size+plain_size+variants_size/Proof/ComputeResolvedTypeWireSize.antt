@@ -16,6 +16,7 @@ use Rattle.view.proofs.Onward.{goes-on}
 use Rattle.settling.proofs.Ended.{not-over}
 use Rattle.settling.proofs.Typing.{leaf-end, name-sized, result-sized, result-over, type-headed, leaf-decided, pass-decided, name-decided, one-decided, sides-decided}
 use Rattle.wiresize.proofs.Insides.{name-part, one-part, sides-part, child-asked, one-next, one-worked}
+use Rattle.wiresize.proofs.Naming.{name-meant}
 use Rattle.wiresize.proofs.Measure.{name-in-type, ok-in-result, err-in-result}
 
 module _ (t : ℕ) where
@@ -78,9 +79,9 @@ module _ (t : ℕ) where
       record {
         next = λ t end q z e. absurd (not-over (c .enum-told .given .1) e);
         works = record {
-          worked = λ t end q st H.
+          worked = λ t end q R H.
               let p = sides-part _ _ _ (c .before .before .before .before .before .before .before .read-head .result) (c .before .before .before .before .before .before .before .read-head .ensures) t end q _ (sides-decided _ _ (c .before .before .before .before .before .before .head-wire-size .ensures) _ (c .before .before .before .before .body .given .1)) .0 in
-              result-over _ (p .whole) (c .enum-told .given .1) (c .before .before .compute-resolved-type-wire-size2 .ensures .works .worked _ _ (p .okRead) st H);
+              result-over _ (p .whole) (c .enum-told .given .1) (c .before .before .compute-resolved-type-wire-size2 .ensures .works .worked _ _ (p .okRead) R H);
         };
       }
 
@@ -101,7 +102,7 @@ module _ (t : ℕ) where
   returns-2 c =
       record {
         next = λ t end q z e. leaf-end _ _ _ (c .before .before .before .before .read-head .result) (c .before .before .before .before .read-head .ensures) _ (leaf-decided _ _ (c .before .before .before .head-wire-size .ensures) _ _ (c .before .size .given .1) .0) t end q;
-        works = record { worked = λ t end q st H. leaf-decided _ _ (c .before .before .before .head-wire-size .ensures) _ _ (c .before .size .given .1) .1 _ t (type-headed _ _ _ (c .before .before .before .before .read-head .result) (c .before .before .before .before .read-head .ensures) t end q) };
+        works = record { worked = λ t end q R H. leaf-decided _ _ (c .before .before .before .head-wire-size .ensures) _ _ (c .before .size .given .1) .1 _ t (type-headed _ _ _ (c .before .before .before .before .read-head .result) (c .before .before .before .before .read-head .ensures) t end q) };
       }
 
   returns-3 : compute-resolved-type-wire-size-lts.Need-returns-3 env (compute-resolved-type-wire-size-at t) compute-resolved-type-wire-size.Post
@@ -109,7 +110,7 @@ module _ (t : ℕ) where
       record {
         next = λ t end q z e. c .pass-type .ensures .passed t end q .1;
         works = record {
-          worked = λ t end q st H. c .pass-type .ensures .passed t end q .0 ∙ pass-decided _ _ (c .before .before .before .before .head-wire-size .ensures) _ (c .before .before .size2 .given .1) _ t (type-headed _ _ _ (c .before .before .before .before .before .read-head .result) (c .before .before .before .before .before .read-head .ensures) t end q);
+          worked = λ t end q R H. c .pass-type .ensures .passed t end q .0 ∙ pass-decided _ _ (c .before .before .before .before .head-wire-size .ensures) _ (c .before .before .size2 .given .1) _ t (type-headed _ _ _ (c .before .before .before .before .before .read-head .result) (c .before .before .before .before .before .read-head .ensures) t end q);
         };
       }
 
@@ -118,7 +119,7 @@ module _ (t : ℕ) where
       record {
         next = λ t end q z e. name-part _ _ _ (c .before .before .before .before .before .read-head .result) (c .before .before .before .before .before .read-head .ensures) t end q _ _ (name-decided _ _ (c .before .before .before .before .head-wire-size .ensures) _ _ (c .before .before .id .given .1)) .1;
         works = record {
-          worked = λ t end q st H. name-sized _ (name-part _ _ _ (c .before .before .before .before .before .read-head .result) (c .before .before .before .before .before .read-head .ensures) t end q _ _ (name-decided _ _ (c .before .before .before .before .head-wire-size .ensures) _ _ (c .before .before .id .given .1)) .0) (c .named-type-wire-size .ensures .worked st H);
+          worked = λ t end q R H. name-sized _ (name-part _ _ _ (c .before .before .before .before .before .read-head .result) (c .before .before .before .before .before .read-head .ensures) t end q _ _ (name-decided _ _ (c .before .before .before .before .head-wire-size .ensures) _ _ (c .before .before .id .given .1)) .0) (name-meant (c .named-type-wire-size .ensures) R H);
         };
       }
 
@@ -129,9 +130,9 @@ module _ (t : ℕ) where
             let p = one-part _ _ _ (c .before .before .before .before .before .before .read-head .result) (c .before .before .before .before .before .before .read-head .ensures) t end q _ _ (one-decided _ _ (c .before .before .before .before .before .head-wire-size .ensures) _ _ (c .before .before .before .kind .given .1)) in
             one-next _ _ _ _ _ _ _ _ (c .close-one .ensures) (c .before .compute-resolved-type-wire-size .ensures .next) (p .0) z e;
         works = record {
-          worked = λ t end q st H.
+          worked = λ t end q R H.
               let p = one-part _ _ _ (c .before .before .before .before .before .before .read-head .result) (c .before .before .before .before .before .before .read-head .ensures) t end q _ _ (one-decided _ _ (c .before .before .before .before .before .head-wire-size .ensures) _ _ (c .before .before .before .kind .given .1)) in
-              one-worked _ _ _ _ _ _ _ _ (c .close-one .ensures) (c .before .compute-resolved-type-wire-size .ensures .next) (p .0) _ (λ u e r. c .before .compute-resolved-type-wire-size .ensures .works .worked u e r st H);
+              one-worked _ _ _ _ _ _ _ _ (c .close-one .ensures) (c .before .compute-resolved-type-wire-size .ensures .next) (p .0) _ (λ u e r. c .before .compute-resolved-type-wire-size .ensures .works .worked u e r R H);
         };
       }
 
@@ -144,12 +145,12 @@ module _ (t : ℕ) where
             let n = c .before .before .before .before .before .compute-resolved-type-wire-size2 .ensures .next _ _ (p .okRead) _ (c .before .before .before .worked .given .1) in
             m .next ∙ c .before .compute-resolved-type-wire-size3 .ensures .next _ _ (at-place _ _ (p .errRead) n) _ (m .sized z e .1);
         works = record {
-          worked = λ t end q st H.
+          worked = λ t end q R H.
               let p = sides-part _ _ _ (c .before .before .before .before .before .before .before .before .before .before .read-head .result) (c .before .before .before .before .before .before .before .before .before .before .read-head .ensures) t end q _ (sides-decided _ _ (c .before .before .before .before .before .before .before .before .before .head-wire-size .ensures) _ (c .before .before .before .before .before .before .before .body .given .1)) .0 in
               let n = c .before .before .before .before .before .compute-resolved-type-wire-size2 .ensures .next _ _ (p .okRead) _ (c .before .before .before .worked .given .1) in
               result-sized _ (p .whole) (c .before .before .before .worked .given .1)
-              (c .before .before .before .before .before .compute-resolved-type-wire-size2 .ensures .works .worked _ _ (p .okRead) st H)
-              (c .before .compute-resolved-type-wire-size3 .ensures .works .worked _ _ (at-place _ _ (p .errRead) n) st H)
+              (c .before .before .before .before .before .compute-resolved-type-wire-size2 .ensures .works .worked _ _ (p .okRead) R H)
+              (c .before .compute-resolved-type-wire-size3 .ensures .works .worked _ _ (at-place _ _ (p .errRead) n) R H)
               (c .join-sides .ensures .worked);
         };
       }

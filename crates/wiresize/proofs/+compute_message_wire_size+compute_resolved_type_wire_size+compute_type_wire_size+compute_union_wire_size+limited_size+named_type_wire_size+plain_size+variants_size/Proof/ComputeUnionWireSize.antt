@@ -11,6 +11,7 @@ use Rattle.wiresize.proofs.compute_union_wire_size.Reads as compute-uni
 use Rattle.wiresize.proofs.+compute_message_wire_size+compute_resolved_type_wire_size+compute_type_wire_size+compute_union_wire_size+limited_size+named_type_wire_size+plain_size+variants_size.Lts-compute_union_wire_size as compute-union-wire-size-lts
 use Rattle.wiresize.proofs.variants_size.Reads as variants-size
 use Rattle.wiresize.proofs.+compute_message_wire_size+compute_resolved_type_wire_size+compute_type_wire_size+compute_union_wire_size+limited_size+named_type_wire_size+plain_size+variants_size.Proof.Common.{compute-union-wire-size-at, variants-size-below}
+use Rattle.wiresize.specs.Asked.{Meant}
 use Rattle.wiresize.proofs.Fields.{count-read}
 use Rattle.wiresize.proofs.Variants.{union-none, variants-behind, union-ended, union-tagged}
 use Rattle.wiresize.proofs.Measure.{variants-in-body}
@@ -24,7 +25,7 @@ module _ (t : ℕ) where
 
   returns-2 : compute-union-wire-size-lts.Need-returns-2 env (compute-union-wire-size-at t) compute-union-wire-size.Post
   returns-2 c = record {
-    worked = λ vs end q st H. union-none _ _ vs (many-length _ _ _ _ vs end (variants-behind _ _ _ _ (told (c .before .before .before .before .read-below .ensures) (c .before .before .count .given .1)) q) ∙ c .if1 .taken);
+    worked = λ vs end q R H. union-none _ _ vs (many-length _ _ _ _ vs end (variants-behind _ _ _ _ (told (c .before .before .before .before .read-below .ensures) (c .before .before .count .given .1)) q) ∙ c .if1 .taken);
   }
 
   variants-size-requires : compute-union-wire-size-lts.Need-variants-size-requires env (compute-union-wire-size-at t) compute-union-wire-size.Post
@@ -39,14 +40,14 @@ module _ (t : ℕ) where
       let worked = c .before .before .before .before in
       let test = worked .before in
       let b = told (test .before .before .before .before .read-below .ensures) (test .before .before .count .given .1) in
-      union-tagged _ _ _ _ _ _ b (worked .variants-size .ensures) (c .before .before .extremes .given .1) (pos-of-ne-zero (test .if1 .left)) (c .tag .ensures)
+      union-tagged (Meant _ _ _ _) _ _ _ _ _ b (worked .variants-size .ensures) (c .before .before .extremes .given .1) (pos-of-ne-zero (test .if1 .left)) (c .tag .ensures)
 
   returns-4 : compute-union-wire-size-lts.Need-returns-4 env (compute-union-wire-size-at t) compute-union-wire-size.Post
   returns-4 c =
       let worked = c .before .before .before in
       let test = worked .before in
       let b = told (test .before .before .before .before .read-below .ensures) (test .before .before .count .given .1) in
-      union-ended _ _ _ _ _ _ b (worked .variants-size .ensures) (c .before .by .given .1)
+      union-ended (Meant _ _ _ _) _ _ _ _ _ b (worked .variants-size .ensures) (c .before .by .given .1)
 
   pub spec : {M : Type 1} → compute-union-wire-size-lts.Closed env (compute-union-wire-size-at t) compute-union-wire-size.Post M
   spec =

@@ -27,9 +27,9 @@ module _ (t : ℕ) where
   returns c = record {
     next = refl;
     works = record {
-      worked = λ e end q st H.
+      worked = λ e end q R H.
           let f = first-of _ _ _ _ _ _ q in
-          counted-as _ (c .limited-wire-size .ensures) (item-sized _ (f .alone (c .before .if1 .taken)) (c .before .before .before .compute-resolved-type-wire-size .ensures .works .worked _ _ (f .here) st H));
+          counted-as _ (c .limited-wire-size .ensures) (item-sized _ (f .alone (c .before .if1 .taken)) (c .before .before .before .compute-resolved-type-wire-size .ensures .works .worked _ _ (f .here) R H));
     };
   }
 
@@ -37,9 +37,9 @@ module _ (t : ℕ) where
   returns-2 c = record {
     next = refl;
     works = record {
-      worked = λ e end q st H.
+      worked = λ e end q R H.
           let f = first-of _ _ _ _ _ _ q in
-          let first = c .before .before .before .before .compute-resolved-type-wire-size .ensures .works .worked _ _ (f .here) st H in
+          let first = c .before .before .before .before .compute-resolved-type-wire-size .ensures .works .worked _ _ (f .here) R H in
           counted-over _ (c .enum-told .given .1) (entry-over _ (f .paired (c .before .before .if1 .left) .2) (c .enum-told .given .1) first);
     };
   }
@@ -58,14 +58,14 @@ module _ (t : ℕ) where
   returns-3 c = record {
     next = refl;
     works = record {
-      worked = λ e end q st H.
+      worked = λ e end q R H.
           let f = first-of _ _ _ _ _ _ q in
           let p = f .paired (c .before .before .before .before .before .before .if1 .left) in
           let first = c .before .before .before .before .before .before .before .before .compute-resolved-type-wire-size .ensures in
           let n = first .next _ _ (f .here) _ (c .before .before .before .before .worked .given .1) in
-          let second = c .before .before .compute-resolved-type-wire-size2 .ensures .works .worked _ _ (at-place _ _ (p .1) n) st H in
+          let second = c .before .before .compute-resolved-type-wire-size2 .ensures .works .worked _ _ (at-place _ _ (p .1) n) R H in
           counted-as _ (c .limited-wire-size2 .ensures)
-          (entry-sized _ (p .2) (c .before .before .before .before .worked .given .1) (first .works .worked _ _ (f .here) st H) second (c .before .entry-wire-size .ensures));
+          (entry-sized _ (p .2) (c .before .before .before .before .worked .given .1) (first .works .worked _ _ (f .here) R H) second (c .before .entry-wire-size .ensures));
     };
   }
 

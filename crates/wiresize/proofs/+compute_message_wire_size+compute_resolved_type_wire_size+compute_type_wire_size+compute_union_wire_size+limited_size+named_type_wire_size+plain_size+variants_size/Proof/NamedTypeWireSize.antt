@@ -13,7 +13,7 @@ use Rattle.wiresize.proofs.+compute_message_wire_size+compute_resolved_
 use mathlib.Core.Path.{refl, sym, _∙_}
 use Rattle.view.proofs.Insides.{fields-inside, variants-inside, terminal-inside}
 use Rattle.reader.proofs.Fetching.{not-missing}
-use Rattle.wiresize.proofs.Naming.{is-message, is-union, is-newtype, kind-is, name-missing, name-marked, name-known, name-message, name-union, name-newtype, name-other, newtype-content, inside-ready}
+use Rattle.wiresize.proofs.Naming.{meant, is-message, is-union, is-newtype, kind-is, name-missing, name-marked, name-known, name-message, name-union, name-newtype, name-other, newtype-content, inside-ready}
 use Rattle.wiresize.proofs.Measure.{body-in-name, terminal-in-name}
 
 module _ (t : ℕ) where
@@ -87,17 +87,17 @@ module _ (t : ℕ) where
   returns-5 : named-type-wire-size-lts.Need-returns-5 env (named-type-wire-size-at t) named-type-wire-size.Post
   returns-5 c =
       let m = is-message _ _ _ (c .before .before .before .before .before .before .before .before .before .before .before .before .before .before .before .before .before .before .before .pre .1 .promise) _ (c .before .before .before .before .before .before .before .before .before .before .before .before .before .before .if1 .left) _ _ (sym (c .before .before .before .before .before .before .before .before .slot-part .ensures) ∙ c .before .before .before .before .before .before .kind .given .1) (c .before .before .before .before .match3 .keys1) in
-      record { worked = λ st H. name-message _ _ _ _ _ _ (c .before .before .before .before .before .before .before .before .before .before .before .before .before .before .before .before .before .before .before .pre .1) st H _ (c .before .before .before .before .before .before .before .before .before .before .before .before .before .before .if1 .left) (c .before .before .before .before .before .before .before .before .before .before .before .before .if2 .left) (sym (c .before .before .before .before .before .before .before .before .before .before .before .known-size .ensures) ∙ c .before .before .before .before .before .before .before .before .before .enum-told .given .1) _ (m .2) (c .compute-message-wire-size .ensures .worked _ _ (fields-inside _ _ _ (sym (c .before .before .before .before .before .before .before .before .slot-part .ensures) ∙ c .before .before .before .before .before .before .kind .given .1) (c .before .before .slot-inside .ensures) (c .before .before .before .before .match3 .keys1) _ _ _ _ (m .3)) st H) }
+      record { worked = λ st H. name-message _ _ _ _ _ _ (c .before .before .before .before .before .before .before .before .before .before .before .before .before .before .before .before .before .before .before .pre .1) st H _ (c .before .before .before .before .before .before .before .before .before .before .before .before .before .before .if1 .left) (c .before .before .before .before .before .before .before .before .before .before .before .before .if2 .left) (sym (c .before .before .before .before .before .before .before .before .before .before .before .known-size .ensures) ∙ c .before .before .before .before .before .before .before .before .before .enum-told .given .1) _ (m .2) (c .compute-message-wire-size .ensures .worked _ _ (fields-inside _ _ _ (sym (c .before .before .before .before .before .before .before .before .slot-part .ensures) ∙ c .before .before .before .before .before .before .kind .given .1) (c .before .before .slot-inside .ensures) (c .before .before .before .before .match3 .keys1) _ _ _ _ (m .3)) _ (meant st H)) }
 
   returns-6 : named-type-wire-size-lts.Need-returns-6 env (named-type-wire-size-at t) named-type-wire-size.Post
   returns-6 c =
       let m = is-union _ _ _ (c .before .before .before .before .before .before .before .before .before .before .before .before .before .before .before .before .before .before .before .pre .1 .promise) _ (c .before .before .before .before .before .before .before .before .before .before .before .before .before .before .if1 .left) _ _ (sym (c .before .before .before .before .before .before .before .before .slot-part .ensures) ∙ c .before .before .before .before .before .before .kind .given .1) (c .before .before .before .before .match3 .keys2) in
-      record { worked = λ st H. name-union _ _ _ _ _ _ (c .before .before .before .before .before .before .before .before .before .before .before .before .before .before .before .before .before .before .before .pre .1) st H _ (c .before .before .before .before .before .before .before .before .before .before .before .before .before .before .if1 .left) (c .before .before .before .before .before .before .before .before .before .before .before .before .if2 .left) (sym (c .before .before .before .before .before .before .before .before .before .before .before .known-size .ensures) ∙ c .before .before .before .before .before .before .before .before .before .enum-told .given .1) _ (m .2) (c .compute-union-wire-size .ensures .worked _ _ (variants-inside _ _ _ (sym (c .before .before .before .before .before .before .before .before .slot-part .ensures) ∙ c .before .before .before .before .before .before .kind .given .1) (c .before .before .slot-inside2 .ensures) (c .before .before .before .before .match3 .keys2) _ _ _ _ (m .3)) st H) }
+      record { worked = λ st H. name-union _ _ _ _ _ _ (c .before .before .before .before .before .before .before .before .before .before .before .before .before .before .before .before .before .before .before .pre .1) st H _ (c .before .before .before .before .before .before .before .before .before .before .before .before .before .before .if1 .left) (c .before .before .before .before .before .before .before .before .before .before .before .before .if2 .left) (sym (c .before .before .before .before .before .before .before .before .before .before .before .known-size .ensures) ∙ c .before .before .before .before .before .before .before .before .before .enum-told .given .1) _ (m .2) (c .compute-union-wire-size .ensures .worked _ _ (variants-inside _ _ _ (sym (c .before .before .before .before .before .before .before .before .slot-part .ensures) ∙ c .before .before .before .before .before .before .kind .given .1) (c .before .before .slot-inside2 .ensures) (c .before .before .before .before .match3 .keys2) _ _ _ _ (m .3)) _ (meant st H)) }
 
   returns-7 : named-type-wire-size-lts.Need-returns-7 env (named-type-wire-size-at t) named-type-wire-size.Post
   returns-7 c =
       let m = is-newtype _ _ _ (c .before .before .before .before .before .before .before .before .before .before .before .before .before .before .before .before .before .pre .1 .promise) _ (c .before .before .before .before .before .before .before .before .before .before .before .before .if1 .left) _ _ (sym (c .before .before .before .before .before .before .slot-part .ensures) ∙ c .before .before .before .before .kind .given .1) (c .before .before .match3 .keys3) in
-      record { worked = λ st H. name-newtype _ _ _ _ _ _ (c .before .before .before .before .before .before .before .before .before .before .before .before .before .before .before .before .before .pre .1) st H _ (c .before .before .before .before .before .before .before .before .before .before .before .before .if1 .left) (c .before .before .before .before .before .before .before .before .before .before .if2 .left) (sym (c .before .before .before .before .before .before .before .before .before .known-size .ensures) ∙ c .before .before .before .before .before .before .before .enum-told .given .1) _ (m .2) (c .compute-resolved-type-wire-size .ensures .works .worked _ _ (terminal-inside _ _ _ (sym (c .before .before .before .before .before .before .slot-part .ensures) ∙ c .before .before .before .before .kind .given .1) (c .before .slot-inside3 .ensures) (c .before .before .before .before .before .before .before .before .before .before .before .before .before .before .before .before .before .pre .1 .promise .named) (c .before .before .match3 .keys3) _ _ (m .3)) st H) }
+      record { worked = λ st H. name-newtype _ _ _ _ _ _ (c .before .before .before .before .before .before .before .before .before .before .before .before .before .before .before .before .before .pre .1) st H _ (c .before .before .before .before .before .before .before .before .before .before .before .before .if1 .left) (c .before .before .before .before .before .before .before .before .before .before .if2 .left) (sym (c .before .before .before .before .before .before .before .before .before .known-size .ensures) ∙ c .before .before .before .before .before .before .before .enum-told .given .1) _ (m .2) (c .compute-resolved-type-wire-size .ensures .works .worked _ _ (terminal-inside _ _ _ (sym (c .before .before .before .before .before .before .slot-part .ensures) ∙ c .before .before .before .before .kind .given .1) (c .before .slot-inside3 .ensures) (c .before .before .before .before .before .before .before .before .before .before .before .before .before .before .before .before .before .pre .1 .promise .named) (c .before .before .match3 .keys3) _ _ (m .3)) _ (meant st H)) }
 
   returns-8 : named-type-wire-size-lts.Need-returns-8 env (named-type-wire-size-at t) named-type-wire-size.Post
   returns-8 c = record {

@@ -34,7 +34,7 @@ module _ (t : ℕ) where
   returns : plain-size-lts.Need-returns env (plain-size-at t) plain-size.Post
   returns c =
       let k = is-told _ _ _ _ (c .before .before .before .settle-plain .ensures) _ (c .before .field .given .1) in
-      record { next = λ x end q z e. k x end q .0; works = record { worked = λ x end q st H. k x end q .1 _ } }
+      record { next = λ x end q z e. k x end q .0; works = record { worked = λ x end q R H. k x end q .1 _ } }
 
   returns-2 : plain-size-lts.Need-returns-2 env (plain-size-at t) plain-size.Post
   returns-2 c =
@@ -43,7 +43,7 @@ module _ (t : ℕ) where
       let past = c .pass-limit .ensures in
       record {
         next = λ x end q z e. past .next _ _ (at-place _ _ (k x end q .2) (w .next _ _ (k x end q .1) z (sym (past .worked) ∙ e)));
-        works = record { worked = λ x end q st H. past .worked ∙ w .works .worked _ _ (k x end q .1) st H ∙ k x end q .3 _ };
+        works = record { worked = λ x end q R H. past .worked ∙ w .works .worked _ _ (k x end q .1) R H ∙ k x end q .3 _ };
       }
 
   returns-3 : plain-size-lts.Need-returns-3 env (plain-size-at t) plain-size.Post
@@ -52,7 +52,7 @@ module _ (t : ℕ) where
       let w = c .limited-size .ensures in
       record {
         next = λ x end q z e. w .next ∙ k x end q .next;
-        works = record { worked = λ x end q st H. limited-sized _ _ _ _ _ (k x end q) _ (w .works .worked _ _ (k x end q .reads) st H) };
+        works = record { worked = λ x end q R H. limited-sized _ _ _ _ _ (k x end q) _ (w .works .worked _ _ (k x end q .reads) R H) };
       }
 
   pub spec : {M : Type 1} → plain-size-lts.Closed env (plain-size-at t) plain-size.Post M

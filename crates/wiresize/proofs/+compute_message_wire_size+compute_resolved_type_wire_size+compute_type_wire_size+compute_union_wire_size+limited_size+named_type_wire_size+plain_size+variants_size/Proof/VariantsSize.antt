@@ -16,22 +16,22 @@ use mathlib.Core.Bool.{false}
 use mathlib.Core.Logic.{⊎-elim}
 use Rattle.measures.proofs.lay.Reads as lay-reads
 use Rattle.number.proofs.Reading.{told}
-use Rattle.settling.specs.Steps.{frameOf}
+use Rattle.reader.specs.Reading.{schemaOf}
 use Rattle.settling.proofs.Ended.{not-refused}
 use Rattle.wiresize.specs.declared.Varied.{Varied}
-use Rattle.wiresize.specs.Asked.{Varies}
+use Rattle.wiresize.specs.Asked.{Meant, Varies}
 use Rattle.wiresize.proofs.Fields.{laid-as, FieldsLeft, next-field, field-turn, field-over, count-read}
 use Rattle.wiresize.proofs.Variants.{clash, VariantsLeft, variants-start, next-variant, variant-start, variant-turn, variant-over, variants-end}
 use Rattle.wiresize.proofs.Measure.{field-in-variants}
 
 abbrev Inv-loop : variants-size-lts.InvT-loop
-Inv-loop image starts scope rows at working layout count extremes last here₀ over₀ by₀ left fields after total₀ more₀ here over by total more = (over ≡ false) × FieldsLeft (scope .layout) image (frameOf scope) rows working fields after more here total
+Inv-loop image starts scope rows at working layout count extremes last here₀ over₀ by₀ left fields after total₀ more₀ here over by total more = (over ≡ false) × FieldsLeft (Meant (scope .layout) (schemaOf (scope .edition) image) rows working) (scope .layout) image (scope .edition) (scope .names) fields after more here total
 
 abbrev μ-loop : variants-size-lts.MeasureT-loop
 μ-loop image starts scope rows at working layout count extremes last here₀ over₀ by₀ left fields after total₀ more₀ here over by total more = more
 
 abbrev Inv-variants : variants-size-lts.InvT-variants
-Inv-variants image starts scope rows at working layout count extremes₀ last₀ here₀ over₀ by₀ left₀ extremes last here over by left = (over ≡ false) × VariantsLeft (scope .layout) image (frameOf scope) rows working count at left here extremes last
+Inv-variants image starts scope rows at working layout count extremes₀ last₀ here₀ over₀ by₀ left₀ extremes last here over by left = (over ≡ false) × VariantsLeft (Meant (scope .layout) (schemaOf (scope .edition) image) rows working) (scope .layout) image (scope .edition) (scope .names) count at left here extremes last
 
 abbrev μ-variants : variants-size-lts.MeasureT-variants
 μ-variants image starts scope rows at working layout count extremes₀ last₀ here₀ over₀ by₀ left₀ extremes last here over by left = left

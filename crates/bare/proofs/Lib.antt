@@ -1,0 +1,4 @@
+pub mod Free
+mod Naming
+mod Runs
+mod Ordering

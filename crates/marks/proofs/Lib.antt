@@ -1,0 +1,4 @@
+pub mod Fields
+pub mod Runs
+pub mod Starting
+pub mod Parted

@@ -1,0 +1,5 @@
+pub mod Ordered
+mod Bits
+pub mod Walking
+mod Arranging
+mod Backing
