@@ -1,5 +1,7 @@
 // Whether no slot of an accepted image leads back to itself by bare names. Then no message holds itself, though the slots may
 // stand in no order, and nothing has to be walked.
+#![tactic(auto)]
+
 ghost use Rattle.std.specs.Prelude.{◌≡◌, ◌+◌, ◌*◌, ◌<◌, ◌≤◌, length};
 ghost use Rattle.tree.specs.Tree.{Leaf, leaf_kind, leaf_number};
 ghost use Rattle.slot.specs.Field.{type_at, field_at, fields_at};

@@ -1,4 +1,6 @@
 // Impls against their traits: classes 2, 3 and 4.
+#![tactic(auto)]
+
 ghost use Rattle.std.specs.Prelude.{◌≡◌, [], ◌∷◌, cond, ℕ, ◌<◌, ◌≤◌, ◌^◌, eqb};
 ghost use Rattle.number.specs.Grammar.{done, read};
 ghost use Rattle.slot.specs.Slot.{Impl, impl_at, Trait, trait_at, slot_kind};

@@ -1,4 +1,6 @@
 // Loops of a graph of up to 512 numbers, held as rows of bits: eight words a row, and place b of row a says that a leads to b.
+#![tactic(auto)]
+
 ghost use Rattle.std.specs.Prelude.{◌≡◌, ◌↔◌, true, ◌+◌, ◌*◌, ◌<◌, ◌≤◌, length};
 ghost use Rattle.graph.specs.Ways.{lowest, lowest_looped};
 ghost use Rattle.graph.specs.Table.{grid, Marked, Joined, Round, Closed, Unmarked};

@@ -1,5 +1,7 @@
 // Sizes of one slot, from the bytes of an accepted image and a table of answers: a name is looked up, never followed. How many nodes
 // of types are met is counted.
+#![tactic(auto)]
+
 ghost use Rattle.std.specs.Prelude.{◌≡◌, ◌+◌, ◌*◌, ◌<◌, ◌≤◌, length};
 ghost use Rattle.number.specs.Grammar.{many, counted};
 ghost use Rattle.slot.specs.Field.{type_at, field_at, fields_at};

@@ -1,4 +1,6 @@
 // The program's text, put into a buffer that the caller lends. What has no place in it is left out.
+#![tactic(auto)]
+
 ghost use Rattle.std.specs.Prelude.{◌≡◌, [], ◌∷◌, ◌/◌, ◌<◌, min, length};
 ghost use Rattle.table.specs.Fitted.{fitted};
 ghost use Rattle.lines.specs.Lines.{number_text, spaced, line, header, all_zero, size_line, size_lines, found_word, finding_at, found_lines, end_line, refused_text, accepted_text, Holds, Appends};

@@ -1,5 +1,7 @@
 // Refusals 8 and 9: newtypes that lead back to themselves by their terminal types, and aliases by the generics of their
 // targets.
+#![tactic(auto)]
+
 ghost use Rattle.std.specs.Prelude.{◌≡◌, List, ℕ, ◌+◌, ◌*◌, ◌<◌, ◌≤◌, length};
 ghost use Rattle.tree.specs.Tree.{Leaf, leaf, leaf_kind, leaf_number};
 ghost use Rattle.slot.specs.declared.Edition.{Edition};

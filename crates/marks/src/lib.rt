@@ -1,4 +1,6 @@
 // Marks what the slots of an accepted image are made of, in rows of bits, and which of them are declared messages and unions.
+#![tactic(auto)]
+
 ghost use Rattle.std.specs.Prelude.{◌≡◌, List, false, ℕ, ◌+◌, ◌*◌, ◌<◌, ◌≤◌, length, replicate};
 ghost use Rattle.number.specs.Grammar.{counted, done, below};
 ghost use Rattle.tree.specs.Tree.{leaf};

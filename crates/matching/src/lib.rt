@@ -1,4 +1,6 @@
 // A message field's type, compared in place with the type that a trait field's expression means.
+#![tactic(auto)]
+
 ghost use Rattle.std.specs.Prelude.{◌≡◌};
 ghost use Rattle.image.specs.Schema.{Schema};
 ghost use Rattle.reader.specs.Reading.{schema_of};

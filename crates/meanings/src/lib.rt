@@ -1,4 +1,6 @@
 // Which name a trait field's expression means, where parameters stand for types.
+#![tactic(auto)]
+
 ghost use Rattle.std.specs.Prelude.{◌≡◌, ◌^◌, ◌≤◌, get_or, set};
 ghost use Rattle.number.specs.Grammar.{read};
 ghost use Rattle.tree.specs.TreeAt.{head_at};

@@ -1,4 +1,6 @@
 // Sizes made of sizes, by value. A number that passes the limit 2^63 - 1 is cut to 2^63, which passes it as well.
+#![tactic(auto)]
+
 ghost use Rattle.std.specs.Prelude.{◌≡◌, ◌+◌, ◌*◌, ◌^◌, min, max};
 ghost use Rattle.tree.specs.Tree.{leaf};
 ghost use Rattle.sizes.specs.Elements.{count_of};

@@ -1,4 +1,6 @@
 // Numbers of the schema image.
+#![tactic(auto)]
+
 ghost use Rattle.std.specs.Prelude.{◌≡◌, ◌^◌};
 ghost use Rattle.number.specs.Number.{number_at};
 ghost use Rattle.number.specs.Shortest.{groups_of};

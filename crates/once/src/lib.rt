@@ -1,5 +1,7 @@
 // What declared messages and unions are made of, in an order in which the parts of each slot stand before it, so that each is worked
 // out once, by the answers of its parts.
+#![tactic(auto)]
+
 ghost use Rattle.reader.specs.Reading.{schema_of};
 ghost use Rattle.reader.specs.Promise.{Promise};
 ghost use Rattle.settling.specs.Steps.{frame_of};

@@ -1,5 +1,7 @@
 // Whether the slots of an accepted image stand in an order in which no message holds itself. Most do, and then nothing has
 // to be walked.
+#![tactic(auto)]
+
 ghost use Rattle.std.specs.Prelude.{◌≡◌, List, Bool, true, false, ℕ, ◌<◌, ltb};
 ghost use Rattle.number.specs.Grammar.{done, read};
 ghost use Rattle.tree.specs.Tree.{Tree, Leaf, leaf_kind, leaf_number};

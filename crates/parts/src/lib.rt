@@ -1,4 +1,6 @@
 // Lists the names that the types of an accepted image's slots hold, in order, in a table.
+#![tactic(auto)]
+
 ghost use Rattle.std.specs.Prelude.{◌≡◌, ℕ, ◌≤◌, ◌<◌};
 ghost use Rattle.number.specs.Grammar.{counted, done, read};
 ghost use Rattle.slot.specs.Field.{type_at, limit_at, Field, field_at, fields_at};

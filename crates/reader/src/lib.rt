@@ -1,4 +1,6 @@
 // Reading an image: accepted, with where its parts stand, or refused with a number from 1 to 9 and a place.
+#![tactic(auto)]
+
 ghost use Rattle.std.specs.Prelude.{◌≡◌, List, ℕ, ◌≤◌, length};
 ghost use Rattle.number.specs.Grammar.{slot, number, many, done, read};
 ghost use Rattle.slot.specs.declared.Edition.{Edition};

@@ -1,4 +1,6 @@
 // Endless types, class 1: the declared messages that hold themselves directly.
+#![tactic(auto)]
+
 ghost use Rattle.std.specs.Prelude.{◌+◌, ◌≤◌, ◌^◌, [], ◌≡◌, length, replicate};
 ghost use Rattle.image.specs.Schema.{slot_of};
 ghost use Rattle.reader.specs.Reading.{schema_of};

@@ -1,6 +1,8 @@
 // Replays two files that the Rust check wrote. `answers` has for each image its bytes, the refusal's number or 0, its place or
 // the count of slots, and the slot starts. `lines` has for each image its bytes and the text that vexcheck has to write. Every
 // image that is answered otherwise is named; the answers are counted.
+#![tactic(auto)]
+
 ghost use Rattle.std.specs.Prelude.{◌<◌, ◌≤◌, length};
 ghost use Rattle.replay.specs.Compared.{count_of, Compared};
 

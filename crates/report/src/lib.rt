@@ -1,4 +1,6 @@
 // The text that the program writes for an image, put into a buffer that the caller lends.
+#![tactic(auto)]
+
 ghost use Rattle.std.specs.Prelude.{length};
 ghost use Rattle.lines.specs.Lines.{Written};
 ghost use Rattle.report.specs.Text.{text_for, VerdictWritten};

@@ -1,4 +1,6 @@
 // Widths of enums and flags, and the rows of the size table as they stand before any size is worked out.
+#![tactic(auto)]
+
 ghost use Rattle.std.specs.Prelude.{◌≡◌, List, true, cond, ℕ, ◌+◌, ◌*◌, ◌≤◌, ◌^◌, max, length, set};
 ghost use Rattle.std.proofs.Math.Option.{some};
 ghost use Rattle.std.proofs.lemmas.List.Edits.{sets};

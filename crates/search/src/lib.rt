@@ -1,4 +1,6 @@
 // The search for a trait field among the fields of a message.
+#![tactic(auto)]
+
 ghost use Rattle.std.specs.Prelude.{◌≡◌};
 ghost use Rattle.search.specs.Search.{Heads, FieldAsked, IsField, SearchAsked, HasField, FieldSought, FoundIf, LooksUp, PlacesHold};
 

@@ -1,4 +1,6 @@
 // What is known of a type by its head, and of a field before names are.
+#![tactic(auto)]
+
 ghost use Rattle.std.specs.Prelude.{◌≡◌, List, ℕ, ◌+◌};
 ghost use Rattle.number.specs.Grammar.{done, below, read};
 ghost use Rattle.tree.specs.Encoding.{Encoding, encoding_at};

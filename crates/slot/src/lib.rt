@@ -1,5 +1,7 @@
 // Slots of the schema image. A cursor is the position that was reached, or the refusal that was met: each function takes
 // one and gives the next.
+#![tactic(auto)]
+
 ghost use Rattle.std.specs.Prelude.{◌≡◌};
 ghost use Rattle.number.specs.Grammar.{many, counted, read};
 ghost use Rattle.number.specs.Answers.{next, follow};

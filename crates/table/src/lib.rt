@@ -1,4 +1,6 @@
 // Tables that a caller lends: a list in a table of another length, and zeros after it.
+#![tactic(auto)]
+
 ghost use Rattle.std.specs.Prelude.{◌≡◌, [], length};
 ghost use Rattle.table.specs.Fitted.{fitted};
 

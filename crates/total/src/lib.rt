@@ -1,4 +1,6 @@
 // The running total of a message's fields, or of a variant's: smallest, largest and mark, lent to the step that adds a field.
+#![tactic(auto)]
+
 ghost use Rattle.std.specs.Prelude.{◌≡◌};
 ghost use Rattle.sizes.specs.Sizes.{then, limited_sum, added};
 ghost use Rattle.total.specs.Totals.{size_of, total_of, sum_of, total_after, step_of};

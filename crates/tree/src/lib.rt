@@ -1,4 +1,6 @@
 // Types, type expressions and encodings of the schema image.
+#![tactic(auto)]
+
 ghost use Rattle.std.specs.Prelude.{◌≡◌, ◌^◌};
 ghost use Rattle.number.specs.Grammar.{below, number, many, read, too_deep};
 ghost use Rattle.number.specs.Answers.{next, follow};

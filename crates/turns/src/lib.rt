@@ -1,4 +1,6 @@
 // The turns of the check: declared messages and unions in order, each worked out and stored; and the size table.
+#![tactic(auto)]
+
 ghost use Rattle.std.specs.Prelude.{◌≡◌, List, ℕ, ◌*◌, ◌≤◌, length};
 ghost use Rattle.std.proofs.lemmas.List.Edits.{sets};
 ghost use Rattle.reader.specs.Reading.{schema_of};

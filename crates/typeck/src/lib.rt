@@ -1,4 +1,6 @@
 // The check of a schema image: widths, sizes and findings, or a refusal.
+#![tactic(auto)]
+
 ghost use Rattle.reader.specs.Reading.{schema_of};
 ghost use Rattle.reader.specs.Promise.{Promise};
 ghost use Rattle.table.specs.Fitted.{fitted};

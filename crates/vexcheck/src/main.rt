@@ -1,5 +1,7 @@
 // Reads an image from standard input, checks it, and writes its size table and findings, or why it is refused. No contract can
 // say what is read or written, so all that is decided between the two stands in functions of its own.
+#![tactic(auto)]
+
 
 ghost use Rattle.std.specs.Prelude.{◌+◌, ◌≤◌, ◌<◌, ◌^◌, ◌≡◌, length};
 ghost use Rattle.lines.specs.Lines.{Written};

@@ -1,4 +1,6 @@
 // What C and Rust programs link.
+#![tactic(auto)]
+
 ghost use Rattle.std.specs.Prelude.{◌≡◌, length, get_or};
 ghost use Rattle.table.specs.Fitted.{fitted};
 ghost use Rattle.typeck.specs.Check as check;

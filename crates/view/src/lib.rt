@@ -1,5 +1,7 @@
 // Parts of an image, for the layers above: a slot's kind with what it holds, and where its fields and types stand.
 // The functions over the view are thin and proved by hand: the work is done on the two slices.
+#![tactic(auto)]
+
 ghost use Rattle.std.specs.Prelude.{◌≡◌};
 ghost use Rattle.view.specs.Part.{part_at};
 ghost use Rattle.view.specs.Take.{place_of, taken_at};

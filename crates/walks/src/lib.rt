@@ -1,5 +1,7 @@
 // The walk for endless types, over the tables of the names that a schema's slots hold: `messages` says which slots are
 // messages, `first` where the names of each start and, one place on, end, and `parts` has the names.
+#![tactic(auto)]
+
 ghost use Rattle.std.specs.Prelude.{◌≡◌, ◌&&◌, ◌<◌, ◌^◌, length, get_or};
 ghost use Rattle.findings.specs.Endless.{counted, entered, left};
 ghost use Rattle.walks.specs.Walk.{Asked, PartWalked, SlotWalked, own_names, Countable, Counted};

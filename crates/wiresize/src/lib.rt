@@ -1,4 +1,6 @@
 // Sizes of types, names, fields, messages and unions, from the bytes of an accepted image.
+#![tactic(auto)]
+
 ghost use Rattle.std.specs.Prelude.{◌≡◌, ◌+◌, ◌*◌, ◌<◌, ◌≤◌, length};
 ghost use Rattle.number.specs.Grammar.{many, counted};
 ghost use Rattle.slot.specs.Field.{type_at, field_at, fields_at};
