@@ -12,7 +12,7 @@ ghost use Rattle.tree.specs.Encoding.{encoding_at};
 use number::{Next, Ranged};
 
 // A resolved type names slots; an expression names names, and has qualified names and generics besides.
-#[derive(Drop)]
+#[derive(Clone, Copy)]
 pub enum Sort {
     Resolved,
     Expression,
@@ -21,7 +21,7 @@ pub enum Sort {
 // What stands in front of a tree's children, with the position after it. Leaf: the kind, 1 for a signed sub-byte type,
 // and the number that it holds (of a sub-byte type its bits, of an inline bit field how many names), no child. One: the
 // kind, and a child. Two: the kind, and two children. Sized: an element, and then a size. Generic: its name, and a child.
-#[derive(Drop)]
+#[derive(Clone, Copy)]
 pub enum Head {
     Leaf(u64, u64, u64, usize),
     One(u64, usize),

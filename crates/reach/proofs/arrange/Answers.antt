@@ -1,0 +1,51 @@
+use Prim.Native.Nat.{◌+◌, ◌-◌, ◌≤◌}
+use native.Mathlib.Omega.{arith}
+use mathlib.Core.Path.{◌≡◌, refl, sym, ap, ◌∙◌}
+use mathlib.Core.Logic.{⊎_elim}
+use borrow.Author.Rules.{rules}
+use lib.ListN.{length}
+use Rattle.reach.proofs.Walking.{E}
+use Rattle.reach.proofs.Arranging.{lit_start, Sofar, sofar_start, sofar_past, sofar_on, sofar_end}
+use Rattle.reach.proofs.arrange.Goals as goal
+
+pub light-requires : goal.light-requires
+light-requires c = (lit_start 0, c.requires.0.few)
+
+pub loop-s-init : goal.loop-s-init
+loop-s-init c = (omega arith, sofar_start _ _ _ _ _ _ _ c.requires.0.few c.light.ensures c.requires.2, refl, refl, refl)
+
+pub bounds-starts-s : goal.bounds-starts-s
+bounds-starts-s c = omega (arith, c.requires.1)
+
+pub slice_bounds-walk-end : goal.slice_bounds-walk-end
+slice_bounds-walk-end c = sym c.loop-s.invariant.1.walk.left_long
+
+pub walk-requires : goal.walk-requires
+walk-requires c = (c.requires.0, c.loop-s-test.true, c.loop-s.invariant.1.walk)
+
+pub returns-in-Back : goal.returns-in-Back
+returns-in-Back c = (c.loop-s.s, c.loop-s-test.true, c.if-starts-s.true, rw c.in-Back.is at c.walk.ensures)
+
+pub loop-s-preserved : goal.loop-s-preserved
+loop-s-preserved c =
+    let g = c.loop-s.invariant in
+    ⊎_elim
+    (λ w. (
+      omega arith,
+      rw (w.16, w.17, w.18, w.19, w.20)
+          (sofar_on _ _ _ g.1 c.loop-s-test.true w.0.taken (rw w.14.given.1 c w.5.ensures)),
+      ap length w.16 ∙ w.6.given ∙ g.2,
+      ap length w.17 ∙ w.9.given ∙ g.3,
+      ap length w.18 ∙ w.11.given ∙ g.4,
+    ))
+    (λ w. (
+      omega arith,
+      rw (w.1, w.2, w.3, w.4, w.5) (sofar_past _ _ _ g.1 w.0.left),
+      ap length w.1 ∙ g.2,
+      ap length w.2 ∙ g.3,
+      ap length w.3 ∙ g.4,
+    ))
+    c.if-starts-s.branch
+
+pub returns : goal.returns
+returns c = sofar_end _ _ _ c.loop-s.invariant.1 c.loop-s-test.false

@@ -1,0 +1,14 @@
+-- The stack is a way from the start, and what is in order has all its parts earlier.
+use Prim.Native.Nat.{◌+◌, ◌-◌}
+use native.Mathlib.Omega.{arith}
+use mathlib.Core.Path.{◌≡◌, sym, ◌∙◌}
+use borrow.Author.Rules.{rules}
+use lib.ListN.{length-set}
+use Rattle.reach.proofs.Walking.{Going, already, going_start, top_held, next, going_back, room, going_push, going_pop, going_end}
+use Rattle.reach.proofs.walk.Given as goal
+
+abbrev pub invariant-loop-depth : goal.invariant-loop-depth
+invariant-loop-depth l = Going l.rows l.count l.start l.initial.stack l.initial.order l.sorted l.seen l.left l.stack l.order l.depth l.done
+
+abbrev pub decreases-loop-depth : goal.decreases-loop-depth
+decreases-loop-depth l = (l.count - l.done) + (l.count - (l.depth + l.done))
