@@ -13,7 +13,7 @@ use number::{Next, Ranged};
 use tree::Sort;
 
 // Edition two has a limit behind each field of a message or variant, and retired ones behind each list of ordinals or bits.
-#[derive(Drop)]
+#[derive(Clone, Copy)]
 pub enum Edition {
     One,
     Two,
@@ -73,7 +73,7 @@ pub fn skip_field(image: &[u8], cursor: Next, edition: Edition, names: u64) -> N
 }
 
 // A field of four bytes: its encoding, and the kind and the number of its type.
-#[derive(Drop)]
+#[derive(Clone, Copy)]
 pub enum Short {
     Is(u64, u64, u64),
     Other,

@@ -7,6 +7,7 @@ use lib.ListN.{length}
 use Rattle.reach.proofs.Walking.{E}
 use Rattle.reach.proofs.Arranging.{lit_start, Sofar, sofar_start, sofar_past, sofar_on, sofar_end}
 use Rattle.reach.proofs.arrange.Goals as goal
+use Rattle.reach.proofs.arrange.Goals.{then-starts-s+in-Done, else-starts-s}
 
 pub light-requires : goal.light-requires
 light-requires c = (lit_start 0, c.requires.0.few)
@@ -29,23 +30,23 @@ returns-in-Back c = (c.loop-s.s, c.loop-s-test.true, c.if-starts-s.true, rw c.in
 pub loop-s-preserved : goal.loop-s-preserved
 loop-s-preserved c =
     let g = c.loop-s.invariant in
-    ⊎_elim
-    (λ w. (
-      omega arith,
-      rw (w.16, w.17, w.18, w.19, w.20)
-          (sofar_on _ _ _ g.1 c.loop-s-test.true w.0.taken (rw w.14.given.1 c w.5.ensures)),
-      ap length w.16 ∙ w.6.given ∙ g.2,
-      ap length w.17 ∙ w.9.given ∙ g.3,
-      ap length w.18 ∙ w.11.given ∙ g.4,
-    ))
-    (λ w. (
-      omega arith,
-      rw (w.1, w.2, w.3, w.4, w.5) (sofar_past _ _ _ g.1 w.0.left),
-      ap length w.1 ∙ g.2,
-      ap length w.2 ∙ g.3,
-      ap length w.3 ∙ g.4,
-    ))
-    c.if-starts-s.branch
+    elim c.if-starts-s.branch [ 
+      then-starts-s+in-Done w ↦ (
+        omega arith,
+        rw (w.seen-is, w.stack-is, w.order-is, w.left-is, w.done-is)
+            (sofar_on _ _ _ g.1 c.loop-s-test.true w.if-starts-s.true (rw w.in-Done.is at w.walk.ensures)),
+        ap length w.seen-is ∙ w.walk.auto.seen ∙ g.2,
+        ap length w.stack-is ∙ w.walk.auto.stack ∙ g.3,
+        ap length w.order-is ∙ w.walk.auto.order ∙ g.4,
+      )
+      | else-starts-s w ↦ (
+        omega arith,
+        rw (w.seen-is, w.stack-is, w.order-is, w.left-is, w.done-is) (sofar_past _ _ _ g.1 w.if-starts-s.false),
+        ap length w.seen-is ∙ g.2,
+        ap length w.stack-is ∙ g.3,
+        ap length w.order-is ∙ g.4,
+      )
+    ]
 
 pub returns : goal.returns
 returns c = sofar_end _ _ _ c.loop-s.invariant.1 c.loop-s-test.false

@@ -10,6 +10,7 @@ use Rattle.graph.specs.Table.{grid}
 use Rattle.reach.specs.Back.{any_below}
 use Rattle.reach.proofs.Backing.{hits, hit_own, hit_led, no_start, no_way}
 use Rattle.reach.proofs.is_from.Goals as goal
+use Rattle.reach.proofs.is_from.Goals.{then-starts-s+else-s-i+else-leads, else-starts-s}
 
 pub loop-s-init : goal.loop-s-init
 unfolding any_below
@@ -30,8 +31,10 @@ returns-then-leads c = let a = c.args in hit_led a.rows.now a.starts.now _ _ _ c
 pub loop-s-preserved : goal.loop-s-preserved
 loop-s-preserved c =
     let a = c.args in
-    ⊎_elim (λ w. (omega arith, no_way a.rows.now a.starts.now a.i a.count c.loop-s.s c.loop-s.invariant.1 w.1.left (sym w.2.ensures ∙ w.3.left)))
-    (λ w. (omega arith, no_start a.rows.now a.starts.now a.i a.count c.loop-s.s c.loop-s.invariant.1 w.left)) c.if-starts-s.branch
+    elim c.if-starts-s.branch [ then-starts-s+else-s-i+else-leads w ↦
+      (omega arith, no_way a.rows.now a.starts.now a.i a.count c.loop-s.s c.loop-s.invariant.1 w.if-s-i.false (sym w.leads.ensures ∙ w.if-leads.false))
+      | else-starts-s w ↦ (omega arith, no_start a.rows.now a.starts.now a.i a.count c.loop-s.s c.loop-s.invariant.1 w.if-starts-s.false)
+    ]
 
 pub returns : goal.returns
 returns c = let z : c.loop-s.s ≡ c.args.count = omega arith in sym (rw z at c.loop-s.invariant.1)

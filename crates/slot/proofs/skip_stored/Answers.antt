@@ -1,0 +1,10 @@
+use mathlib.Core.Path.{sym, ◌∙◌}
+use Rattle.number.proofs.Reading.{follow_on, follow_stop}
+use borrow.Author.Rules.{rules}
+use Rattle.slot.proofs.skip_stored.Goals as goal
+
+pub returns-in-At : goal.returns-in-At
+returns-in-At c = c.read_stored.ensures ∙ sym (follow_on _ _ _ c.in-At.is)
+
+pub returns-in-Refused : goal.returns-in-Refused
+returns-in-Refused c = sym (follow_stop _ _ _ _ c.in-Refused.is)
