@@ -20,7 +20,7 @@ use image::Frame;
 use view::Part;
 
 // The span of an arity finding, and the position after it.
-#[derive(Drop)]
+#[derive(Clone, Copy)]
 struct TraitSpan {
     offset: u32,
     length: u32,
@@ -28,7 +28,7 @@ struct TraitSpan {
 }
 
 // An impl: its span, the trait's slot + 1 or 0, the span for its arity, the arguments' place and count, the target's place.
-#[derive(Drop)]
+#[derive(Clone, Copy)]
 struct ImplDef {
     offset: u32,
     length: u32,
@@ -41,7 +41,7 @@ struct ImplDef {
 }
 
 // A trait: the place of its parameters' count, the count, the place of its fields, how many.
-#[derive(Drop)]
+#[derive(Clone, Copy)]
 struct TraitDef {
     type_params: usize,
     type_param_count: u32,

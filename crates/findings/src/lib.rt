@@ -5,7 +5,7 @@ ghost use Rattle.std.specs.Prelude.{◌≡◌, [], ◌∷◌, ◌*◌, ◌<◌, 
 ghost use Rattle.std.proofs.lemmas.List.Edits.{sets};
 ghost use Rattle.findings.specs.Finding.{rows_of};
 
-#[derive(Drop)]
+#[derive(Clone, Copy)]
 pub struct Finding {
     pub class: u32,
     pub slot: u32,
@@ -16,7 +16,7 @@ pub struct Finding {
 }
 
 // What the walk for endless types goes by: the messages on the direct path, the slots visited, and the findings so far.
-#[derive(Drop)]
+#[derive(Clone, Copy)]
 pub struct RecursionState {
     pub path: [bool; 512],
     pub visited: [bool; 512],
@@ -24,7 +24,7 @@ pub struct RecursionState {
 }
 
 // Which slot a type names, if it is a name.
-#[derive(Drop)]
+#[derive(Clone, Copy)]
 pub enum Value {
     Id(u64),
     NotName,

@@ -5,7 +5,7 @@ ghost use Rattle.std.specs.Prelude.{◌≡◌, ◌↔◌, true, ◌+◌, ◌*◌
 ghost use Rattle.graph.specs.Ways.{lowest, lowest_looped};
 ghost use Rattle.graph.specs.Table.{grid, Marked, Joined, Round, Closed, Unmarked};
 
-#[derive(Drop)]
+#[derive(Clone, Copy)]
 pub enum Lowest {
     At(usize),
     Nowhere,

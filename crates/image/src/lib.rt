@@ -13,7 +13,7 @@ use slot::Edition;
 
 // The edition of an image, and where its parts stand: how many names, and the position of what they find; how many slots; how many
 // declarations, and their position.
-#[derive(Drop)]
+#[derive(Clone, Copy)]
 pub struct Frame {
     pub edition: Edition,
     pub names: u64,
@@ -23,21 +23,21 @@ pub struct Frame {
     pub declared: usize,
 }
 
-#[derive(Drop)]
+#[derive(Clone, Copy)]
 pub enum Framed {
     Read(Frame),
     Refused(u8, usize),
 }
 
 // The count of names, the position of what they find, the count of slots, and the position of the first slot.
-#[derive(Drop)]
+#[derive(Clone, Copy)]
 pub enum Fronted {
     Read(u64, usize, u64, usize),
     Refused(u8, usize),
 }
 
 // The count of declarations, their position, and the position after them.
-#[derive(Drop)]
+#[derive(Clone, Copy)]
 pub enum Ended {
     Read(u64, usize, usize),
     Refused(u8, usize),

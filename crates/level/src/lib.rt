@@ -24,7 +24,7 @@ use view::Part;
 use wiresize::Row as Stored;
 
 // A size that was worked out, the position after its type, and the nodes that were met.
-#[derive(Drop)]
+#[derive(Clone, Copy)]
 pub struct Leveled {
     pub worked: Worked,
     pub next: usize,
@@ -32,14 +32,14 @@ pub struct Leveled {
 }
 
 // What variants come to: their extremes, the size of the last one, and the nodes that were met.
-#[derive(Drop)]
+#[derive(Clone, Copy)]
 pub enum Tallied {
     Sized(Size, Size, u64),
     Over(Operation),
 }
 
 // A size that was worked out, and the nodes that were met: none above the limit.
-#[derive(Drop)]
+#[derive(Clone, Copy)]
 pub struct Filled {
     pub worked: Worked,
     pub visits: u64,

@@ -16,14 +16,14 @@ use number::{Next, Ranged};
 use tree::{Head, Sort};
 
 // Equal, with the positions after both; or not.
-#[derive(Drop)]
+#[derive(Clone, Copy)]
 pub enum Matched {
     Same(usize, usize),
     Differs,
 }
 
 // The numbers of a head, and the position after it.
-#[derive(Drop)]
+#[derive(Clone, Copy)]
 pub struct Node {
     pub kind: u64,
     pub flag: u64,

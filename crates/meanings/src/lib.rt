@@ -20,14 +20,14 @@ use view::Part;
 
 // What names stand for. Types: parameters, by the table of places. One: an alias's parameters at a place, and its one
 // argument, of which only is known which name it is.
-#[derive(Drop)]
+#[derive(Clone, Copy)]
 pub enum Scope {
     Types,
     One(usize, Value),
 }
 
 // What a leaf means: itself, an id, the type at a place, or a type that is no name.
-#[derive(Drop)]
+#[derive(Clone, Copy)]
 pub enum Meaning {
     Itself,
     Id(u64),
@@ -36,28 +36,28 @@ pub enum Meaning {
 }
 
 // The place of an argument.
-#[derive(Drop)]
+#[derive(Clone, Copy)]
 pub enum Found {
     At(usize),
     Nothing,
 }
 
 // One look-up among parameters: where the argument stands, and the count 1.
-#[derive(Drop)]
+#[derive(Clone, Copy)]
 pub struct LookUp {
     pub found: Found,
     pub count: u64,
 }
 
 // Where an alias has its parameters, and where its target.
-#[derive(Drop)]
+#[derive(Clone, Copy)]
 pub enum AliasAt {
     At(usize, usize),
     Nothing,
 }
 
 // How many names were looked up, and the position after the expression.
-#[derive(Drop)]
+#[derive(Clone, Copy)]
 pub struct Looked {
     pub count: u64,
     pub next: usize,

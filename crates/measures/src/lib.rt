@@ -12,7 +12,7 @@ ghost use Rattle.measures.specs.Heads.{leaf_of, wrap_of};
 use sizes::{Layout, Operation, Size, Worked};
 
 // A largest, if there is one.
-#[derive(Drop)]
+#[derive(Clone, Copy)]
 pub enum Bound {
     Most(u64),
     None,

@@ -8,7 +8,7 @@ ghost use Rattle.number.specs.Grammar.{Role, below, number, many, counted, read}
 ghost use Rattle.number.specs.Answers.{outcome, next, follow};
 
 // A number with the position after it, or the refusal 2 or 3, whose place is the number's first byte.
-#[derive(Drop)]
+#[derive(Clone, Copy)]
 pub enum Number {
     Value(u64, usize),
     Refused(u8),
@@ -71,14 +71,14 @@ pub fn groups_of(number: u64) -> u64
 }
 
 // A number in its range with the position after it, or a refusal, 2, 3 or 4, with its place.
-#[derive(Drop)]
+#[derive(Clone, Copy)]
 pub enum Ranged {
     Value(u64, usize),
     Refused(u8, usize),
 }
 
 // The position after what was read, or a refusal with its place.
-#[derive(Drop)]
+#[derive(Clone, Copy)]
 pub enum Next {
     At(usize),
     Refused(u8, usize),

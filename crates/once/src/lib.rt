@@ -13,7 +13,7 @@ use reach::Walked;
 use settling::Scope;
 
 // The lowest slot that is reached and leads back to itself, or how many slots stand in order.
-#[derive(Drop)]
+#[derive(Clone, Copy)]
 pub enum Arranged {
     Loop(usize),
     Order(usize),

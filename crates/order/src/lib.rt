@@ -18,7 +18,7 @@ use tree::{Head, Sort};
 use view::Part;
 
 // Whether the bare name of a type, if it is one, leads on; and the position after the type, or after the field.
-#[derive(Drop)]
+#[derive(Clone, Copy)]
 struct Led {
     ok: bool,
     next: usize,

@@ -18,14 +18,14 @@ use tree::{Head, Sort};
 use view::Part;
 
 // The position after what was listed, and how much of the table is used.
-#[derive(Drop)]
+#[derive(Clone, Copy)]
 pub struct Listed {
     pub next: usize,
     pub used: usize,
 }
 
 // Whether a slot is a message, and how much of the table is used.
-#[derive(Drop)]
+#[derive(Clone, Copy)]
 pub struct Slotted {
     pub message: bool,
     pub used: usize,

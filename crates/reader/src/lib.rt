@@ -18,14 +18,14 @@ use slot::Edition;
 use tree::Sort;
 use view::Part;
 
-#[derive(Drop)]
+#[derive(Clone, Copy)]
 pub enum Reading {
     Accepted(Frame),
     Refused(u8, usize),
 }
 
 // An answer, with the table of where the slots start.
-#[derive(Drop)]
+#[derive(Clone, Copy)]
 pub struct Read {
     pub answer: Reading,
     pub starts: [usize; 512],

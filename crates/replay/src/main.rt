@@ -9,14 +9,14 @@ ghost use Rattle.replay.specs.Compared.{count_of, Compared};
 use libc::STDOUT_FILENO;
 
 // What a file records of an image: how it is read, or the text that is written for it.
-#[derive(Drop)]
+#[derive(Clone, Copy)]
 enum Kind {
     Reading,
     Text,
 }
 
 // What the file has next: so many bytes, fewer than it says, or nothing.
-#[derive(Drop)]
+#[derive(Clone, Copy)]
 enum Part {
     Bytes(usize),
     Short,
@@ -24,7 +24,7 @@ enum Part {
 }
 
 // What became of one image.
-#[derive(Drop)]
+#[derive(Clone, Copy)]
 enum Outcome {
     Same(u64),
     Differs,

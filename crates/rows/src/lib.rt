@@ -21,7 +21,7 @@ use slot::Edition;
 use view::Part;
 
 // A number of an accepted image, and the position after it. Such an image has a number wherever one is taken.
-#[derive(Drop)]
+#[derive(Clone, Copy)]
 struct Taken {
     value: u64,
     next: usize,
@@ -149,7 +149,7 @@ fn flags_bytes(image: &[u8], at: usize, edition: Edition, declared: bool) -> u64
 }
 
 // Three numbers of the size table.
-#[derive(Drop)]
+#[derive(Clone, Copy)]
 pub struct Row {
     pub kind: u64,
     pub a: u64,

@@ -12,7 +12,7 @@ use tree::Sort;
 
 // Whether the message has the trait field, how many names were looked up among the trait's parameters, and the position after the
 // trait field's expression.
-#[derive(Drop)]
+#[derive(Clone, Copy)]
 pub struct Searched {
     pub found: bool,
     pub look_ups: u64,
@@ -20,7 +20,7 @@ pub struct Searched {
 }
 
 // A field's name, and the position of its type.
-#[derive(Drop)]
+#[derive(Clone, Copy)]
 pub struct FieldHead {
     pub name: u64,
     pub place: usize,

@@ -18,7 +18,7 @@ use slot::{Edition, Short};
 use tree::{Head, Sort};
 
 // The frame of an accepted image, and how fields follow one another: one thing to hand down, since types nest.
-#[derive(Drop)]
+#[derive(Clone, Copy)]
 pub struct Scope {
     pub edition: Edition,
     pub layout: Layout,
@@ -30,14 +30,14 @@ pub struct Scope {
 }
 
 // A size that was worked out, and the position after its type.
-#[derive(Drop)]
+#[derive(Clone, Copy)]
 pub struct Walked {
     pub worked: Worked,
     pub next: usize,
 }
 
 // Where a field's type stands, by the encoding that governs it.
-#[derive(Drop)]
+#[derive(Clone, Copy)]
 pub enum Coded {
     Plain(usize),
     Varint(usize),
@@ -46,7 +46,7 @@ pub enum Coded {
 
 // Elements that a field's limit bears on: the kind of the field's type, where the element's own types stand, how many there are at most,
 // and the position after the field.
-#[derive(Drop)]
+#[derive(Clone, Copy)]
 pub struct Limited {
     pub kind: u64,
     pub body: usize,
@@ -56,7 +56,7 @@ pub struct Limited {
 
 // What is known of a field before names are: its size and the position after the field, where Varint or ZigZag governs it or it holds nothing but a number;
 // its name and that position, where it holds nothing but a name; else where its type stands.
-#[derive(Drop)]
+#[derive(Clone, Copy)]
 pub enum Settled {
     Is(Walked),
     Name(u64, usize),
@@ -65,7 +65,7 @@ pub enum Settled {
 
 // What is known of a field by the kind of its type, where neither Varint nor ZigZag governs it: its size and the position after the field; that the
 // type decides; or which elements its limit bears on.
-#[derive(Drop)]
+#[derive(Clone, Copy)]
 pub enum Plain {
     Is(Walked),
     Type,
@@ -73,7 +73,7 @@ pub enum Plain {
 }
 
 // The kind and the number of a type's head.
-#[derive(Drop)]
+#[derive(Clone, Copy)]
 pub struct Kinded {
     pub kind: u64,
     pub number: u64,
@@ -81,7 +81,7 @@ pub struct Kinded {
 
 // What the head of a type decides: its size, with the position after it where it has no parts; or which parts are to be
 // worked out: a name, one child with the kind around it (6 for a fixed array), or the two sides of a Result.
-#[derive(Drop)]
+#[derive(Clone, Copy)]
 pub enum Decided {
     Leaf(Size, usize),
     Pass(Size),
@@ -204,7 +204,7 @@ pub fn pass_limit(image: &[u8], field: Walked, scope: Scope) -> Walked
 }
 
 // A field's limit in edition two, and the position after it.
-#[derive(Drop)]
+#[derive(Clone, Copy)]
 pub struct Limit {
     pub most: u64,
     pub next: usize,

@@ -8,7 +8,7 @@ ghost use Rattle.total.specs.Totals.{size_of, total_of, sum_of, total_after, ste
 use sizes::{Operation, Size, Worked};
 
 // The field was added, or what passed the limit.
-#[derive(Drop)]
+#[derive(Clone, Copy)]
 pub enum Step {
     On,
     Over(Operation),

@@ -22,28 +22,28 @@ use slot::Edition;
 use wiresize::Turned;
 
 // Which check is asked for: the ordinary one, or that of the head board, which starts every field on a whole byte.
-#[derive(Drop)]
+#[derive(Clone, Copy)]
 pub enum Entry {
     Ordinary,
     HeadBoard,
 }
 
 // Accepted, or a refusal, from 1 to 11, 14 or 15, with its place.
-#[derive(Drop)]
+#[derive(Clone, Copy)]
 pub enum Sizing {
     Accepted,
     Refused(u8, u64),
 }
 
 // On to the next place of the declaration list, or what made the first number above the limit.
-#[derive(Drop)]
+#[derive(Clone, Copy)]
 pub enum Taken {
     On,
     Over(Operation),
 }
 
 // All places were gone through, or what made the first number above the limit, and at which slot's turn.
-#[derive(Drop)]
+#[derive(Clone, Copy)]
 pub enum Passed {
     All,
     Over(Operation, u64),

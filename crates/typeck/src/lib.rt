@@ -18,7 +18,7 @@ use slot::Edition;
 use turns::{Entry, Sizing};
 
 // Accepted, with how many findings there are; or a refusal's number and place.
-#[derive(Drop)]
+#[derive(Clone, Copy)]
 pub enum Verdict {
     Accepted(u64),
     Refused(u8, u64),

@@ -10,14 +10,14 @@ ghost use Rattle.vexcheck.specs.Input.{count_of, taken_of, step_of, text_of_inpu
 use libc::{STDIN_FILENO, STDOUT_FILENO};
 
 // What standard input gave: so many bytes, or a read that failed.
-#[derive(Drop)]
+#[derive(Clone, Copy)]
 enum Taken {
     Bytes(usize),
     Failed,
 }
 
 // What follows a read: another, to this place; or nothing.
-#[derive(Drop)]
+#[derive(Clone, Copy)]
 enum Step {
     On(usize),
     Stop(Taken),

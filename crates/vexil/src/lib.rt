@@ -14,7 +14,7 @@ use typeck::Verdict;
 // `number` is 0 for an accepted image, and `value` then counts its slots or its findings; else they are a refusal's number
 // and place.
 #[repr(C)]
-#[derive(Drop)]
+#[derive(Clone, Copy)]
 pub struct Answer {
     pub number: u64,
     pub value: u64,

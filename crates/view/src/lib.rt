@@ -11,21 +11,21 @@ use number::{Next, Ranged};
 use tree::Sort;
 
 // An image, with where its slots start: as many places as it has slots.
-#[derive(Drop)]
+#[derive(Clone, Copy)]
 pub struct View<'a, 'b> {
     pub image: &'a [u8],
     pub starts: &'b [usize],
 }
 
 // A slot's kind, and the position of what the kind holds.
-#[derive(Drop)]
+#[derive(Clone, Copy)]
 pub enum Part {
     At(u64, usize),
     Missing,
 }
 
 // A number below 2^32, and the position after it; where none reads, 0 and the place of the refusal.
-#[derive(Drop)]
+#[derive(Clone, Copy)]
 pub struct Taken {
     pub value: u32,
     pub next: usize,

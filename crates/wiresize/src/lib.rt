@@ -19,21 +19,21 @@ use tree::Sort;
 use view::Part;
 
 // What a row of the size table says of a name.
-#[derive(Drop)]
+#[derive(Clone, Copy)]
 pub enum Row {
     Known(Worked),
     None,
 }
 
 // What variants come to: their extremes, and the size of the last one.
-#[derive(Drop)]
+#[derive(Clone, Copy)]
 pub enum Varied {
     Sized(Size, Size),
     Over(Operation),
 }
 
 // A turn of a declared slot; Other is neither a message nor a union.
-#[derive(Drop)]
+#[derive(Clone, Copy)]
 pub enum Turned {
     Sized(Size),
     Over(Operation),

@@ -30,8 +30,8 @@ returns-in-Back c = (c.loop-s.s, c.loop-s-test.true, c.if-starts-s.true, rw c.in
 pub loop-s-preserved : goal.loop-s-preserved
 loop-s-preserved c =
     let g = c.loop-s.invariant in
-    elim c.if-starts-s.branch [ 
-      then-starts-s+in-Done w ↦ (
+    elim c.if-starts-s.branch [
+      | then-starts-s+in-Done w ↦ (
         omega arith,
         rw (w.seen-is, w.stack-is, w.order-is, w.left-is, w.done-is)
             (sofar_on _ _ _ g.1 c.loop-s-test.true w.if-starts-s.true (rw w.in-Done.is at w.walk.ensures)),

@@ -31,8 +31,9 @@ returns-then-leads c = let a = c.args in hit_led a.rows.now a.starts.now _ _ _ c
 pub loop-s-preserved : goal.loop-s-preserved
 loop-s-preserved c =
     let a = c.args in
-    elim c.if-starts-s.branch [ then-starts-s+else-s-i+else-leads w ↦
-      (omega arith, no_way a.rows.now a.starts.now a.i a.count c.loop-s.s c.loop-s.invariant.1 w.if-s-i.false (sym w.leads.ensures ∙ w.if-leads.false))
+    elim c.if-starts-s.branch [
+      | then-starts-s+else-s-i+else-leads w ↦
+          (omega arith, no_way a.rows.now a.starts.now a.i a.count c.loop-s.s c.loop-s.invariant.1 w.if-s-i.false (sym w.leads.ensures ∙ w.if-leads.false))
       | else-starts-s w ↦ (omega arith, no_start a.rows.now a.starts.now a.i a.count c.loop-s.s c.loop-s.invariant.1 w.if-starts-s.false)
     ]
 
