@@ -15,10 +15,14 @@ pub shape_of-starts-in-Refused : goal.shape_of-starts-in-Refused
 shape_of-starts-in-Refused c = c.loop-i.invariant.long
 
 pub returns-in-Refused : goal.returns-in-Refused
-returns-in-Refused c = stop_turn _ _ _ _ _ _ _ _ _ c.loop-i.invariant c.loop-i-test.true _ _ (sym c.read_slot.ensures ∙ c.in-Refused.is)
+returns-in-Refused c =
+    let z = stop_turn _ _ _ _ _ _ _ _ _ c.loop-i.invariant c.loop-i-test.true _ _ (sym c.read_slot.ensures ∙ c.in-Refused.is) in
+    record { end = z.0; table = z.1; }
 
 pub shape_of-starts : goal.shape_of-starts
 shape_of-starts c = c.loop-i.invariant.long
 
 pub returns : goal.returns
-returns c = last_turn _ _ _ _ _ _ _ _ _ c.loop-i.invariant c.loop-i-test.false
+returns c =
+    let z = last_turn _ _ _ _ _ _ _ _ _ c.loop-i.invariant c.loop-i-test.false in
+    record { end = z.0; table = z.1; }
