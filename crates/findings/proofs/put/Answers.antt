@@ -1,0 +1,7 @@
+use mathlib.Core.Path.{sym}
+use lib.Seq.{set_out}
+use borrow.Author.Rules.{rules}
+use Rattle.findings.proofs.put.Goals as goal
+
+pub returns-else-i-findings : goal.returns-else-i-findings
+returns-else-i-findings c = sym (set_out _ _ _ c.if-i-findings.false)
