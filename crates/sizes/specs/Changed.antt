@@ -1,7 +1,7 @@
 -- Sizes know of a limit only where it bears on elements, and of a list of ordinals or bits the highest alone: a change that keeps
 -- these changes no width, no size and no table. Moving the retired ones to the live ones is such a change, and so is leaving out
 -- limits that bear on nothing. Assumes nothing.
-use Prim.Native.Nat.{ℕ, zero, suc, ◌*◌}
+use Prim.Native.Nat.{ℕ, zero, suc, ◌*◌, max}
 use Rattle.std.specs.Prelude.{◌≡◌, cond}
 use Rattle.std.proofs.Math.Path.{refl, ap, ap₂, fun_ext}
 use Rattle.std.proofs.Common.{sym, ◌∙◌, arith}
@@ -28,7 +28,7 @@ use Rattle.sizes.specs.Check.{brought_in, brought, body_size, own_size, storing,
 highest_behind : (start : ℕ) (ns ms : List ℕ) → highest start (ns ++ ms) ≡ highest (highest start ns) ms
 unfolding highest
 highest_behind start [] ms = refl
-highest_behind start (n ∷ ns) ms = highest_behind _ ns ms
+highest_behind start (n ∷ ns) ms = highest_behind (max start n) ns ms
 
 -- retired ones that are moved behind the live ones count as before
 pub top_moved : (o : Ordinals) → top_of (joined o) ≡ top_of o

@@ -2,7 +2,7 @@
 use Rattle.std.specs.Prelude.{◌≡◌, Bool, true, false, cond}
 use Rattle.std.proofs.Common.{subst, arith}
 use Prim.Native.Nat.{ℕ, zero, suc}
-use Rattle.std.proofs.Math.Logic.{Iff·symm}
+use Rattle.std.proofs.Math.Logic.Iff.{symm}
 use Rattle.std.proofs.Math.Option.{some, none-ne-some, some-injective}
 use Rattle.image.specs.Schema.{Schema}
 use Rattle.sizes.specs.Sizes.{Layout, Size, Open, Sized, Resolver, fields_size, union_size}
@@ -33,7 +33,7 @@ around_any P s q = subst (On Around P) (sized_inj q) (record { ordered = tt; bet
 module _ (L : Layout) (S : Schema) (st : State) (trusted : Trusted L S st) where
   stored_around : (i : ℕ) (s : Size) → st i ≡ some s → On Around (ContentLength L S (content_of S i)) s
   stored_around i s e =
-      around.same (ContentLength L S (content_of S i)) _ _ (λ n. Iff·symm (named_is L S i n)) (enclosed (SlotLength L S i) s (trusted i s e))
+      around.same (ContentLength L S (content_of S i)) _ _ (λ n. symm (named_is L S i n)) (enclosed (SlotLength L S i) s (trusted i s e))
 
   names_around : (k : ℕ) (w : Working) (i : ℕ) → HoldsAt Around L S (name_within L S st k w) i
   unfolding name_within name_rule

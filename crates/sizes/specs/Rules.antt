@@ -279,8 +279,8 @@ span_end_lem ends h (generic n t) = omega arith
 
 pub varint_end_lem : (t : Tree) → InSpan (varint_end t) (varint_end t)
 unfolding varint_end
-varint_end_lem t = span_end_lem _ (omega arith) t
+varint_end_lem t = span_end_lem (80 ∷ 80 ∷ 24 ∷ 40 ∷ 80 ∷ []) (omega arith) t
 
 pub zigzag_end : (t : Tree) → InSpan (zig_zag_end t) (zig_zag_end t)
 unfolding zig_zag_end
-zigzag_end t = span_end_lem _ (omega arith) t
+zigzag_end t = span_end_lem (80 ∷ 80 ∷ 80 ∷ 80 ∷ 80 ∷ 80 ∷ 24 ∷ 40 ∷ 80 ∷ []) (omega arith) t

@@ -1,0 +1,6 @@
+use Rattle.reader.proofs.Telling.{refused_at}
+use borrow.Author.Rules.{rules}
+use Rattle.reader.proofs.or_refuse.Goals as goal
+
+pub returns-in-At : goal.returns-in-At
+returns-in-At c = refused_at _ _ _ _ c.in-At.is

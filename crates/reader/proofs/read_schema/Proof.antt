@@ -1,6 +1,0 @@
-use borrow.Author.Rules.{rules}
-use Rattle.reader.proofs.read_schema.Statement.{statement}
-use Rattle.reader.proofs.read_schema.Tie as tie
-
-pub read_schema_spec : {M : Type 1} → statement M
-read_schema_spec = tie.close (tie.spec (λ c κs. search rules) (λ c. c.read-edition.ensures))
