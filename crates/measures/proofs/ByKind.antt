@@ -139,11 +139,11 @@ module _ (ends : List ℕ) where
 
 pub varint_as : (t : Tree) {k v : ℕ} → kind_of t ≡ k → number_of t ≡ v → varint_end (leaf (leaf_of k v)) ≡ varint_end t
 unfolding varint_end
-varint_as t e f = span_as _ t e f
+varint_as t e f = span_as (80 ∷ 80 ∷ 24 ∷ 40 ∷ 80 ∷ []) t e f
 
 pub zigzag_as : (t : Tree) {k v : ℕ} → kind_of t ≡ k → number_of t ≡ v → zig_zag_end (leaf (leaf_of k v)) ≡ zig_zag_end t
 unfolding zig_zag_end
-zigzag_as t e f = span_as _ t e f
+zigzag_as t e f = span_as (80 ∷ 80 ∷ 80 ∷ 80 ∷ 80 ∷ 80 ∷ 24 ∷ 40 ∷ 80 ∷ []) t e f
 
 -- the numbers of primitives that have the last end
 pub varint_rest : (n : ℕ) → (n ≡ 2 → ⊥) → (n ≡ 3 → ⊥) → varint_end (leaf (primitive n)) ≡ 80

@@ -1,0 +1,5 @@
+use borrow.Author.Rules.{rules}
+use Rattle.measures.proofs.raise.Goals as goal
+
+pub returns : goal.returns
+returns c = c.add_varying.ensures

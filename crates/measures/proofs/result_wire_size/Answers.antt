@@ -1,0 +1,5 @@
+use borrow.Author.Rules.{rules}
+use Rattle.measures.proofs.result_wire_size.Goals as goal
+
+pub returns : goal.returns
+returns c = simp (c.raise.ensures, c.widen.ensures)

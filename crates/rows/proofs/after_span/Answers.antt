@@ -1,0 +1,6 @@
+use Rattle.rows.proofs.Slots.{span_end_lem}
+use borrow.Author.Rules.{rules}
+use Rattle.rows.proofs.after_span.Goals as goal
+
+pub returns : goal.returns
+returns c = span_end_lem _ _ _ _ _ _ c.take-offset.ensures c.take-length.ensures

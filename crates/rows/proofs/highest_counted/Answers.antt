@@ -1,0 +1,6 @@
+use Rattle.rows.proofs.Slots.{counted_tops}
+use borrow.Author.Rules.{rules}
+use Rattle.rows.proofs.highest_counted.Goals as goal
+
+pub returns : goal.returns
+returns c = counted_tops _ _ _ _ c.take-count.ensures _ _ _ c.highest_of.ensures

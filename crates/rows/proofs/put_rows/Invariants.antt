@@ -1,0 +1,15 @@
+use borrow.Author.Rules.{rules}
+use native.Mathlib.Omega.{arith}
+use Prim.Native.Nat.{◌-◌, ◌*◌}
+use mathlib.Core.Path.{refl, ap, ◌∙◌}
+use lib.Seq.{sets}
+use Rattle.reader.specs.Reading.{schema_of}
+use Rattle.sizes.specs.Check.{brought}
+use Rattle.rows.proofs.Table.{Rowed, no_row, next_row, all_rows}
+use Rattle.rows.proofs.put_rows.Given as goal
+
+abbrev pub invariant-loop-i : goal.invariant-loop-i
+invariant-loop-i l = Rowed (schema_of l.frame.edition l.image) (brought (schema_of l.frame.edition l.image)) l.initial.rows l.i l.rows
+
+abbrev pub decreases-loop-i : goal.decreases-loop-i
+decreases-loop-i l = l.frame.slots - l.i
