@@ -1,0 +1,16 @@
+use borrow.Author.Rules.{rules}
+use native.Mathlib.Omega.{arith}
+use mathlib.Core.Path.{◌≡◌, refl}
+use lib.ListN.{length}
+use Rattle.number.proofs.Reading.{told}
+use Rattle.slot.specs.Field.{fields_at}
+use Rattle.parts.specs.Names.{variant_names}
+use Rattle.parts.specs.Lists.{filled}
+use Rattle.parts.proofs.Listing.{Left, left_start, left_on, left_end, counted_list, counted_not}
+use Rattle.parts.proofs.list_variants.Given as goal
+
+abbrev pub invariant-loop-left : goal.invariant-loop-left
+invariant-loop-left l = (length l.parts ≡ length l.initial.parts) × Left (fields_at l.edition l.names) variant_names l.image l.initial.left l.initial.here (filled l.initial.parts l.initial.taken) l.left l.here (filled l.parts l.taken)
+
+abbrev pub decreases-loop-left : goal.decreases-loop-left
+decreases-loop-left l = l.left
