@@ -1,5 +1,5 @@
 -- Bare names that lead on: of a type, a field, fields, a slot, and the slots in their order. Assumes nothing.
-use Prim.Native.Nat.{ℕ, suc, ◌+◌, ◌-◌, ◌≤◌, ◌<◌}
+use Prim.Native.Nat.{ℕ, suc, ◌+◌, ◌-◌, ◌≤◌, ◌<◌, zero}
 use mathlib.Core.Path.{◌≡◌, refl, sym, ap, ◌∙◌}
 use mathlib.Core.List.{List, [], ◌∷◌}
 use mathlib.Core.Bool.{Bool, true, false, cond}
@@ -324,6 +324,7 @@ module _ (up : Bool) (S : Schema) where
       where
         none : (n : ℕ) (xs : List Slot) → length xs ≤ n → drop n xs ≡ []
         none n [] q = drop-nil n
+        none zero (x ∷ xs) q = absurd (omega arith)
         none (suc n) (x ∷ xs) q = none n xs (omega arith)
 
     module _ (h : i < length S.slots) (r : Bool) (q : r ≡ bare_slot (leads_on up S i) (slot_of S i)) where

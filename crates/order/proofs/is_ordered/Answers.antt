@@ -1,0 +1,10 @@
+use mathlib.Core.Path.{sym, ◌∙◌}
+use Rattle.order.proofs.Leading.{ordered_down, ordered_up}
+use borrow.Author.Rules.{rules}
+use Rattle.order.proofs.is_ordered.Goals as goal
+
+pub returns-then-goes_one_way : goal.returns-then-goes_one_way
+returns-then-goes_one_way c = ordered_down _ (sym c.if-goes_one_way.true ∙ c.goes_one_way.ensures)
+
+pub returns : goal.returns
+returns c = ordered_up _ (sym c.if-goes_one_way.false ∙ c.goes_one_way.ensures) _ c.goes_one_way-2.ensures
