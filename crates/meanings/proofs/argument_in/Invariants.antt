@@ -1,0 +1,13 @@
+use borrow.Author.Rules.{rules}
+use native.Mathlib.Omega.{arith}
+use mathlib.Core.Path.{sym, ◌∙◌}
+use Rattle.number.proofs.Reading.{told}
+use Rattle.meanings.specs.declared.Found.{Found}
+use Rattle.meanings.proofs.Arguments.{Left, at_start, no_name, no_type, is_here, one_on, type_not, name_not}
+use Rattle.meanings.proofs.argument_in.Given as goal
+
+abbrev pub invariant-loop-left : goal.invariant-loop-left
+invariant-loop-left l = Left l.names l.image l.n l.first l.count l.start l.arguments l.left l.p l.more l.a
+
+abbrev pub decreases-loop-left : goal.decreases-loop-left
+decreases-loop-left l = l.left

@@ -1,0 +1,7 @@
+use mathlib.Core.Path.{sym}
+use lib.ListN.{get_or-eq_default}
+use borrow.Author.Rules.{rules}
+use Rattle.meanings.proofs.place.Goals as goal
+
+pub returns-else-i-places : goal.returns-else-i-places
+returns-else-i-places c = sym (get_or-eq_default c.args.places.now 0 c.if-i-places.false)
