@@ -60,7 +60,7 @@ pub fn known_size(rows: &[u64], slot: usize) -> Row
 }
 
 // A type. Its frame is kept small: types nest.
-#[cycle(compute_message_wire_size_compute_resolved_type_wire_size_compute_type_wire_size_compute_union_wire_size_limited_size_named_type_wire_size_plain_size_variants_size)]
+#[cycle(wire_size)]
 fn compute_resolved_type_wire_size(
     image: &[u8],
     starts: &[usize],
@@ -102,7 +102,7 @@ fn compute_resolved_type_wire_size(
 }
 
 // A name. A slot that is being worked out is tested first, also before its row.
-#[cycle(compute_message_wire_size_compute_resolved_type_wire_size_compute_type_wire_size_compute_union_wire_size_limited_size_named_type_wire_size_plain_size_variants_size)]
+#[cycle(wire_size)]
 fn named_type_wire_size(
     image: &[u8],
     starts: &[usize],
@@ -151,7 +151,7 @@ fn named_type_wire_size(
 }
 
 // A field by itself: its type, unless what is known before names settles it.
-#[cycle(compute_message_wire_size_compute_resolved_type_wire_size_compute_type_wire_size_compute_union_wire_size_limited_size_named_type_wire_size_plain_size_variants_size)]
+#[cycle(wire_size)]
 fn compute_type_wire_size(
     image: &[u8],
     starts: &[usize],
@@ -174,7 +174,7 @@ fn compute_type_wire_size(
 }
 
 // A field that neither Varint nor ZigZag governs, from its type on.
-#[cycle(compute_message_wire_size_compute_resolved_type_wire_size_compute_type_wire_size_compute_union_wire_size_limited_size_named_type_wire_size_plain_size_variants_size)]
+#[cycle(wire_size)]
 fn plain_size(
     image: &[u8],
     starts: &[usize],
@@ -197,7 +197,7 @@ fn plain_size(
 }
 
 // The elements that a field's limit bears on: of a map's, the key first, then the value in every case.
-#[cycle(compute_message_wire_size_compute_resolved_type_wire_size_compute_type_wire_size_compute_union_wire_size_limited_size_named_type_wire_size_plain_size_variants_size)]
+#[cycle(wire_size)]
 fn limited_size(
     image: &[u8],
     starts: &[usize],
@@ -234,7 +234,7 @@ fn limited_size(
 
 // The fields of so many variants, one behind the other; those of a message are those of one. The first total above the limit ends variants
 // and fields together. The layout is handed in beside the scope: read from it here, it would have the scope taken apart for each field.
-#[cycle(compute_message_wire_size_compute_resolved_type_wire_size_compute_type_wire_size_compute_union_wire_size_limited_size_named_type_wire_size_plain_size_variants_size)]
+#[cycle(wire_size)]
 fn variants_size(
     image: &[u8],
     starts: &[usize],
@@ -285,7 +285,7 @@ fn variants_size(
 }
 
 // A message, from the count of its fields on.
-#[cycle(compute_message_wire_size_compute_resolved_type_wire_size_compute_type_wire_size_compute_union_wire_size_limited_size_named_type_wire_size_plain_size_variants_size)]
+#[cycle(wire_size)]
 fn compute_message_wire_size(
     image: &[u8],
     starts: &[usize],
@@ -305,7 +305,7 @@ fn compute_message_wire_size(
 }
 
 // A union, from the count of its variants on.
-#[cycle(compute_message_wire_size_compute_resolved_type_wire_size_compute_type_wire_size_compute_union_wire_size_limited_size_named_type_wire_size_plain_size_variants_size)]
+#[cycle(wire_size)]
 fn compute_union_wire_size(
     image: &[u8],
     starts: &[usize],
