@@ -1,0 +1,21 @@
+use mathlib.Core.Path.{refl}
+use Prim.Native.Nat.{◌*◌, ◌+◌, ◌-◌}
+use Rattle.graph.specs.Loops.{unvisited}
+use Rattle.walks.specs.Walk.{Held}
+use Rattle.walks.proofs.Walking.{Whole}
+use Rattle.walks.proofs.Along.{before, behind, name_past, name_found, name_back, name_visited, inside_fewer, inside_fits, name_inside, Along, along_start, along_fits, along_on, along_end}
+use native.Mathlib.Omega.{arith}
+use borrow.Author.Rules.{rules}
+use Rattle.walks.proofs.+walk_slot_walk_type_for_recursion.Given as goal
+
+abbrev pub decreases-walk_slot : goal.decreases-walk_slot
+decreases-walk_slot l = unvisited l.state.visited * 2 + 1
+
+abbrev pub decreases-walk_type_for_recursion : goal.decreases-walk_type_for_recursion
+decreases-walk_type_for_recursion l = unvisited l.state.visited * 2
+
+abbrev pub invariant-walk_slot-loop-p : goal.invariant-walk_slot-loop-p
+invariant-walk_slot-loop-p l = (S : _) → Held S l.messages l.first l.parts → Along S l.first l.parts l.slot l.direct l.initial.s l.p l.s
+
+abbrev pub decreases-walk_slot-loop-p : goal.decreases-walk_slot-loop-p
+decreases-walk_slot-loop-p l = l.end - l.p

@@ -1,0 +1,11 @@
+use Rattle.findings.specs.Endless.{entered}
+use borrow.Author.Rules.{rules}
+use Rattle.walks.proofs.enter.Goals as goal
+
+pub returns-then-joins : goal.returns-then-joins
+unfolding entered
+returns-then-joins c = rw c.if-joins.true
+
+pub returns-else-joins : goal.returns-else-joins
+unfolding entered
+returns-else-joins c = rw c.if-joins.false

@@ -1,0 +1,11 @@
+use Rattle.findings.specs.Endless.{left}
+use borrow.Author.Rules.{rules}
+use Rattle.walks.proofs.leave.Goals as goal
+
+pub returns-then-joins : goal.returns-then-joins
+unfolding left
+returns-then-joins c = rw c.if-joins.true
+
+pub returns-else-joins : goal.returns-else-joins
+unfolding left
+returns-else-joins c = rw c.if-joins.false
