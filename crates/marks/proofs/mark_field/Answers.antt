@@ -1,0 +1,14 @@
+-- Most fields have four bytes and a limit. Assumes nothing.
+use mathlib.Core.Path.{sym, ◌∙◌}
+use native.Mathlib.Omega.{arith}
+use Prim.Native.Nat.{◌+◌}
+use Rattle.slot.proofs.FourBytes.{short_bytes}
+use Rattle.marks.proofs.Fields.{limit_end, short_marked}
+use borrow.Author.Rules.{rules}
+use Rattle.marks.proofs.mark_field.Goals as goal
+
+pub overflow_add-at : goal.overflow_add-at
+overflow_add-at c = omega (arith, (short_bytes _ _ _ _ _ _ (sym c.short_field.ensures ∙ c.in-Is.is)).long)
+
+pub returns-in-Is : goal.returns-in-Is
+returns-in-Is c = short_marked _ _ _ _ c.args.edition _ _ _ (sym c.short_field.ensures ∙ c.in-Is.is) _ (c.mark_short.ensures _ _ _ (sym c.short_field.ensures ∙ c.in-Is.is)) _ (limit_end c.args.edition _ (c.args.at + 4) c.place_of.ensures c.skip_limit.ensures)

@@ -1,0 +1,14 @@
+use borrow.Author.Rules.{rules}
+use native.Mathlib.Omega.{arith}
+use mathlib.Core.Path.{◌≡◌, refl}
+use lib.ListN.{length}
+use Rattle.number.proofs.Reading.{told}
+use Rattle.reader.specs.Reading.{schema_of}
+use Rattle.recursion.proofs.Checking.{Turn, first_turn, small_count, never_refused, next_turn, last_turn}
+use Rattle.recursion.proofs.check_declared.Given as goal
+
+abbrev pub invariant-loop-left : goal.invariant-loop-left
+invariant-loop-left l = (length l.findings ≡ length l.initial.findings) × Turn (schema_of l.frame.edition l.image) l.image l.initial.findings l.left l.p l.count l.findings
+
+abbrev pub decreases-loop-left : goal.decreases-loop-left
+decreases-loop-left l = l.left
