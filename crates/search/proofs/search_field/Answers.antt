@@ -1,0 +1,14 @@
+use borrow.Author.Rules.{rules}
+use Rattle.search.proofs.Sought.{looks_up, places_hold, search_asked, found_if}
+use Rattle.search.proofs.search_field.Goals as goal
+
+pub has_field-found-requires : goal.has_field-found-requires
+has_field-found-requires c = search_asked c.requires _ _ _ c.look_up-looked.ensures.right
+
+pub returns : goal.returns
+returns c =
+    record {
+      found = found_if c.requires _ _ _ c.look_up-looked.ensures.right _ _ c.has_field-found.ensures _ c.answer.ensures.found;
+      look_ups = looks_up c.requires _ _ _ c.look_up-looked.ensures.right _ _ c.answer.ensures.look_ups c.answer.ensures.next;
+      table = places_hold c.requires _ _ _ c.look_up-looked.ensures.right;
+    }
