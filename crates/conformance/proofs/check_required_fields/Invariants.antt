@@ -1,0 +1,16 @@
+use borrow.Author.Rules.{rules}
+use native.Mathlib.Omega.{arith}
+use Prim.Native.Nat.{ℕ, ◌-◌}
+use mathlib.Core.Path.{◌≡◌}
+use lib.ListN.{length, length-replicate}
+use Rattle.findings.proofs.Adding.{adds_kept}
+use Rattle.view.proofs.Taking.{takes}
+use Rattle.conformance.specs.Adding.{Targeted}
+use Rattle.conformance.proofs.Required.{finds_hold, Going, at_start, at_end, sought, going_on}
+use Rattle.conformance.proofs.check_required_fields.Given as goal
+
+abbrev pub invariant-loop-k : goal.invariant-loop-k
+invariant-loop-k l = (length l.places ≡ 4096) × ((x : Targeted l.image l.starts l.frame l.impl_def l.trait_def l.place l.count) → Going l.image l.starts l.frame l.impl_def l.trait_def l.slot l.place l.count x l.initial.findings l.findings l.places l.n l.p l.k)
+
+abbrev pub decreases-loop-k : goal.decreases-loop-k
+decreases-loop-k l = l.trait_def.field_count - l.k

@@ -1,0 +1,15 @@
+use native.Mathlib.Omega.{arith}
+use Prim.Native.Nat.{◌-◌}
+use mathlib.Core.Path.{◌≡◌, refl}
+use Rattle.image.specs.declared.Frame.{Frame}
+use Rattle.reader.specs.Reading.{schema_of}
+use Rattle.reader.specs.Promise.{Promise}
+use Rattle.conformance.proofs.Having.{Sofar, sofar_on, sofar_stop, sofar_end}
+use borrow.Author.Rules.{rules}
+use Rattle.conformance.proofs.has_impls.Given as goal
+
+abbrev pub invariant-loop-i : goal.invariant-loop-i
+invariant-loop-i l = (f : Frame) → Promise l.image l.starts f → f.slots ≡ l.slots → Sofar (schema_of f.edition l.image) l.i
+
+abbrev pub decreases-loop-i : goal.decreases-loop-i
+decreases-loop-i l = l.slots - l.i
