@@ -1,0 +1,5 @@
+use borrow.Author.Rules.{rules}
+use Rattle.typeck.proofs.check.Goals as goal
+
+pub returns : goal.returns
+returns c = c.check_by.ensures
