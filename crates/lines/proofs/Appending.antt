@@ -55,10 +55,6 @@ then {a} {b} {c} {x} {y} f g =
       grown = λ p t h. rw (sym (append_assoc t x y)) (g.grown p (t ++ x) (f.grown p t h));
     }
 
--- the first text in a cleared buffer
-pub first : {a b x : List ℕ} {r : ℕ} (p : ℕ) → a ≡ fitted p [] → Appends a 0 x b r → Holds p x b r
-first p e f = f.grown p [] (record { content = e; position = omega arith })
-
 -- a byte more of a text
 pub byte_more : {a b c : List ℕ} {u v w : ℕ} (text : List ℕ) (i : ℕ) → i < length text → Appends a u (take i text) b v
     → Appends b v (get_or text i 0 ∷ []) c w → Appends a u (take (i + 1) text) c w

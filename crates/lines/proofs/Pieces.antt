@@ -79,9 +79,6 @@ finding_more l i f g = rw (add-one i) (then f g)
 pub all_sizes : {a b : List ℕ} {u v : ℕ} (s : List ℕ) (n i : ℕ) → i ≤ n → n ≤ i → Appends a u (size_lines i s) b v → Appends a u (size_lines n s) b v
 all_sizes s n i h l f = let e : i ≡ n = omega arith in rw e at f
 
-pub finding_put : {a b : List ℕ} {u v : ℕ} (ns ms : List ℕ) → ns ≡ ms → Appends a u (line found_word ns) b v → Appends a u (line found_word ms) b v
-finding_put ns ms e f = rw e at f
-
 pub all_findings : {a b : List ℕ} {u v : ℕ} (l : List ℕ) (n m i : ℕ) → i ≤ n → n ≤ i → n ≡ m → Appends a u (found_lines i l) b v
     → Appends a u (found_lines m l) b v
 all_findings l n m i h k q f = let e : i ≡ m = omega arith in rw e at f
