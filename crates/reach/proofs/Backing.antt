@@ -1,15 +1,14 @@
 -- The search for a start that is or leads to a number. Assumes nothing.
-use Prim.Native.Nat.{ℕ, suc, ◌+◌, ◌*◌, ◌<◌, ◌≤◌}
+use Prim.Native.Nat.{ℕ, ◌+◌, ◌*◌, ◌<◌, ◌≤◌}
 use native.Mathlib.Omega.{arith}
 use native.Mathlib.Numerals.{add-one}
-use mathlib.Core.Path.{◌≡◌, refl, sym, ap, ◌∙◌}
+use mathlib.Core.Path.{◌≡◌, sym}
 use mathlib.Core.List.{List}
 use mathlib.Core.Bool.{Bool, true, false, ◌&&◌, ◌||◌, or-true, and-false}
 use borrow.Author.Tests.{eq-eqb, ne_eqb}
 use lib.ListN.{length, get_or}
 use lib.Dec.{eqb}
-use Rattle.graph.specs.declared.Lowest.{Lowest}
-use Rattle.graph.specs.Ways.{Leads, via, lowest}
+use Rattle.graph.specs.Ways.{via, lowest}
 use Rattle.graph.specs.Loops.{lowest_same}
 use Rattle.graph.specs.Table.{grid, Closed}
 use Rattle.graph.proofs.Rows.{ways}

@@ -1,8 +1,5 @@
-use Prim.Native.Nat.{◌-◌, ◌≤◌}
 use native.Mathlib.Omega.{arith}
 use mathlib.Core.Path.{◌≡◌}
-use borrow.Author.Rules.{rules}
-use Rattle.graph.specs.Table.{Closed}
 use Rattle.graph.proofs.Rows.{closed_start, closed_on}
 use Rattle.graph.proofs.close.Goals as goal
 

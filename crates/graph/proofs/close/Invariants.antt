@@ -1,10 +1,6 @@
 -- After the rounds below k, the table has the ways through numbers below k.
 use Prim.Native.Nat.{◌-◌, ◌≤◌}
-use native.Mathlib.Omega.{arith}
-use mathlib.Core.Path.{◌≡◌}
-use borrow.Author.Rules.{rules}
 use Rattle.graph.specs.Table.{Closed}
-use Rattle.graph.proofs.Rows.{closed_start, closed_on}
 use Rattle.graph.proofs.close.Given as goal
 
 abbrev pub invariant-loop-k : goal.invariant-loop-k

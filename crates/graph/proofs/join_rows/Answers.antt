@@ -1,7 +1,5 @@
-use Prim.Native.Nat.{◌-◌, ◌≤◌}
 use native.Mathlib.Omega.{arith}
-use borrow.Author.Rules.{rules}
-use Rattle.graph.proofs.Rows.{Words, words_start, words_on, words_end}
+use Rattle.graph.proofs.Rows.{words_start, words_on, words_end}
 use Rattle.graph.proofs.join_rows.Goals as goal
 
 pub loop-j-init : goal.loop-j-init

@@ -1,8 +1,6 @@
 -- After j turns, row i has taken in the first j words of row k.
 use Prim.Native.Nat.{◌-◌, ◌≤◌}
-use native.Mathlib.Omega.{arith}
-use borrow.Author.Rules.{rules}
-use Rattle.graph.proofs.Rows.{Words, words_start, words_on, words_end}
+use Rattle.graph.proofs.Rows.{Words}
 use Rattle.graph.proofs.join_rows.Given as goal
 
 abbrev pub invariant-loop-j : goal.invariant-loop-j

@@ -1,6 +1,5 @@
 -- The code's shift and remainder are the definition's.
 use mathlib.Core.Path.{refl}
-use borrow.Author.Rules.{rules}
 use Rattle.graph.specs.Table.{bit, grid}
 use Rattle.graph.proofs.leads.Goals as goal
 

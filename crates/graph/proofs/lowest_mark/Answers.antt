@@ -1,10 +1,6 @@
-use Prim.Native.Nat.{◌-◌, ◌≤◌}
 use native.Mathlib.Omega.{arith}
 use native.Mathlib.Nat.{sub-zero}
-use mathlib.Core.Path.{◌≡◌, sym, ◌∙◌}
-use borrow.Author.Rules.{rules}
-use Rattle.graph.specs.Ways.{lowest}
-use Rattle.graph.specs.Table.{grid}
+use mathlib.Core.Path.{sym, ◌∙◌}
 use Rattle.graph.proofs.Rows.{low_none, low_at, low_next}
 use Rattle.graph.proofs.lowest_mark.Goals as goal
 

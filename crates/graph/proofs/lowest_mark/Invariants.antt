@@ -1,12 +1,8 @@
 -- After i turns without a find, the search goes on at i.
 use Prim.Native.Nat.{◌-◌, ◌≤◌}
-use native.Mathlib.Omega.{arith}
-use native.Mathlib.Nat.{sub-zero}
-use mathlib.Core.Path.{◌≡◌, sym, ◌∙◌}
-use borrow.Author.Rules.{rules}
+use mathlib.Core.Path.{◌≡◌}
 use Rattle.graph.specs.Ways.{lowest}
 use Rattle.graph.specs.Table.{grid}
-use Rattle.graph.proofs.Rows.{low_none, low_at, low_next}
 use Rattle.graph.proofs.lowest_mark.Given as goal
 
 abbrev pub invariant-loop-i : goal.invariant-loop-i

@@ -1,5 +1,4 @@
 -- One bit is set, or the place is not in the table.
-use borrow.Author.Rules.{rules}
 use Rattle.graph.proofs.Rows.{marked, unmarked}
 use Rattle.graph.proofs.mark.Goals as goal
 

@@ -1,9 +1,6 @@
-use Prim.Native.Nat.{◌-◌, ◌≤◌}
 use native.Mathlib.Omega.{arith}
 use mathlib.Core.Path.{◌≡◌, sym, ◌∙◌}
-use mathlib.Core.Logic.{⊎_elim}
-use borrow.Author.Rules.{rules}
-use Rattle.graph.proofs.Rows.{Rows, rows_start, round_none, took, kept}
+use Rattle.graph.proofs.Rows.{rows_start, round_none, took, kept}
 use Rattle.graph.proofs.pass.Goals as goal
 use Rattle.graph.proofs.pass.Goals.{then-leads, else-leads}
 

@@ -1,10 +1,6 @@
 -- After i turns, the rows below i have been through round k.
 use Prim.Native.Nat.{◌-◌, ◌≤◌}
-use native.Mathlib.Omega.{arith}
-use mathlib.Core.Path.{◌≡◌, sym, ◌∙◌}
-use mathlib.Core.Logic.{⊎_elim}
-use borrow.Author.Rules.{rules}
-use Rattle.graph.proofs.Rows.{Rows, rows_start, round_none, took, kept}
+use Rattle.graph.proofs.Rows.{Rows}
 use Rattle.graph.proofs.pass.Given as goal
 
 abbrev pub invariant-loop-i : goal.invariant-loop-i

@@ -1,12 +1,7 @@
 -- After j turns, the first j words of the row are 0.
 use Prim.Native.Nat.{ℕ, ◌+◌, ◌*◌, ◌-◌, ◌≤◌, ◌<◌}
-use native.Mathlib.Omega.{arith}
-use mathlib.Core.Bool.{false≢true}
-use mathlib.Core.Path.{◌≡◌, refl}
-use borrow.Author.Rules.{rules}
-use borrow.Author.Count.{below_more}
+use mathlib.Core.Path.{◌≡◌}
 use lib.ListN.{get_or}
-use Rattle.graph.proofs.Rows.{empty, marked_word}
 use Rattle.graph.proofs.row_is_empty.Given as goal
 
 abbrev pub invariant-loop-j : goal.invariant-loop-j

@@ -1,7 +1,6 @@
 use mathlib.Core.Path.{sym}
 use native.Mathlib.Omega.{arith}
 use lib.Seq.{set_out}
-use borrow.Author.Rules.{rules}
 use Rattle.image.proofs.note.Goals as goal
 
 pub returns-else-i-starts : goal.returns-else-i-starts

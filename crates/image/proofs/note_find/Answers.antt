@@ -1,7 +1,6 @@
 use mathlib.Core.Path.{sym}
 use native.Mathlib.Omega.{arith}
 use lib.Seq.{set_out}
-use borrow.Author.Rules.{rules}
 use Rattle.image.proofs.note_find.Goals as goal
 
 pub returns-else-i-finds : goal.returns-else-i-finds

@@ -2,7 +2,6 @@ use mathlib.Core.Path.{sym, ◌∙◌}
 use Rattle.number.specs.Grammar.{slot}
 use Rattle.number.proofs.Reading.{told}
 use Rattle.image.proofs.Framing.{declared_refused, declared_read_lem, numbers_refused}
-use borrow.Author.Rules.{rules}
 use Rattle.image.proofs.read_declared.Goals as goal
 
 pub returns-in-At : goal.returns-in-At

@@ -1,7 +1,6 @@
 use mathlib.Core.Path.{sym, ◌∙◌}
 use Rattle.image.specs.Image.{front_with}
 use Rattle.image.proofs.Framing.{extra, complete, no_end}
-use borrow.Author.Rules.{rules}
 use Rattle.image.proofs.read_end.Goals as goal
 
 pub returns-then-end-image : goal.returns-then-end-image

@@ -1,9 +1,7 @@
-use borrow.Author.Rules.{rules}
-use Prim.Native.Nat.{◌-◌}
 use native.Mathlib.Omega.{arith}
 use Rattle.number.proofs.InRange.{below_is}
 use Rattle.number.proofs.Reading.{told}
-use Rattle.image.proofs.Finding.{Written, written_start, written_on, written_stop, written_end}
+use Rattle.image.proofs.Finding.{written_start, written_on, written_stop, written_end}
 use Rattle.image.proofs.read_finds.Goals as goal
 
 pub loop-i-init : goal.loop-i-init

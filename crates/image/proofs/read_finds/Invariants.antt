@@ -1,10 +1,6 @@
 -- The loop's invariant: what the names passed find stands in the table. Assumes nothing.
-use borrow.Author.Rules.{rules}
 use Prim.Native.Nat.{◌-◌}
-use native.Mathlib.Omega.{arith}
-use Rattle.number.proofs.InRange.{below_is}
-use Rattle.number.proofs.Reading.{told}
-use Rattle.image.proofs.Finding.{Written, written_start, written_on, written_stop, written_end}
+use Rattle.image.proofs.Finding.{Written}
 use Rattle.image.proofs.read_finds.Given as goal
 
 abbrev pub invariant-loop-i : goal.invariant-loop-i

@@ -2,7 +2,6 @@ use mathlib.Core.Path.{sym, ◌∙◌}
 use Rattle.number.specs.Grammar.{slot}
 use Rattle.number.proofs.Reading.{told}
 use Rattle.image.proofs.Framing.{front_refused, names_refused, front_read_lem, count_refused}
-use borrow.Author.Rules.{rules}
 use Rattle.image.proofs.read_front.Goals as goal
 
 pub returns-in-Value-read_below : goal.returns-in-Value-read_below

@@ -1,8 +1,5 @@
-use borrow.Author.Rules.{rules}
-use native.Mathlib.Omega.{arith}
-use Prim.Native.Nat.{◌-◌}
 use mathlib.Core.Path.{sym, ◌∙◌}
-use Rattle.image.proofs.Tables.{Turn, first_turn, stop_turn, last_turn, next_turn}
+use Rattle.image.proofs.Tables.{first_turn, stop_turn, last_turn, next_turn}
 use Rattle.image.proofs.read_slots.Goals as goal
 
 pub loop-i-init : goal.loop-i-init
@@ -17,7 +14,7 @@ shape_of-starts-in-Refused c = c.loop-i.invariant.long
 pub returns-in-Refused : goal.returns-in-Refused
 returns-in-Refused c =
     let z = stop_turn _ _ _ _ _ _ _ _ _ c.loop-i.invariant c.loop-i-test.true _ _ (sym c.read_slot.ensures ∙ c.in-Refused.is) in
-    record { end = z.0; table = z.1; }
+    record { end = z.0; table = z.1 }
 
 pub shape_of-starts : goal.shape_of-starts
 shape_of-starts c = c.loop-i.invariant.long
@@ -25,4 +22,4 @@ shape_of-starts c = c.loop-i.invariant.long
 pub returns : goal.returns
 returns c =
     let z = last_turn _ _ _ _ _ _ _ _ _ c.loop-i.invariant c.loop-i-test.false in
-    record { end = z.0; table = z.1; }
+    record { end = z.0; table = z.1 }

@@ -1,8 +1,5 @@
-use borrow.Author.Rules.{rules}
-use native.Mathlib.Omega.{arith}
 use Prim.Native.Nat.{◌-◌}
-use mathlib.Core.Path.{sym, ◌∙◌}
-use Rattle.image.proofs.Tables.{Turn, first_turn, stop_turn, last_turn, next_turn}
+use Rattle.image.proofs.Tables.{Turn}
 use Rattle.image.proofs.read_slots.Given as goal
 
 abbrev pub invariant-loop-i : goal.invariant-loop-i

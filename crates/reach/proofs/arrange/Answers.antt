@@ -1,11 +1,7 @@
-use Prim.Native.Nat.{◌+◌, ◌-◌, ◌≤◌}
 use native.Mathlib.Omega.{arith}
-use mathlib.Core.Path.{◌≡◌, refl, sym, ap, ◌∙◌}
-use mathlib.Core.Logic.{⊎_elim}
-use borrow.Author.Rules.{rules}
+use mathlib.Core.Path.{refl, sym, ap, ◌∙◌}
 use lib.ListN.{length}
-use Rattle.reach.proofs.Walking.{E}
-use Rattle.reach.proofs.Arranging.{lit_start, Sofar, sofar_start, sofar_past, sofar_on, sofar_end}
+use Rattle.reach.proofs.Arranging.{lit_start, sofar_start, sofar_past, sofar_on, sofar_end}
 use Rattle.reach.proofs.arrange.Goals as goal
 use Rattle.reach.proofs.arrange.Goals.{then-starts-s+in-Done, else-starts-s}
 

@@ -1,12 +1,9 @@
 -- The starts below s are in order, with all that they lead to.
-use Prim.Native.Nat.{◌+◌, ◌-◌, ◌≤◌}
-use native.Mathlib.Omega.{arith}
-use mathlib.Core.Path.{◌≡◌, refl, sym, ap, ◌∙◌}
-use mathlib.Core.Logic.{⊎_elim}
-use borrow.Author.Rules.{rules}
+use Prim.Native.Nat.{◌-◌, ◌≤◌}
+use mathlib.Core.Path.{◌≡◌}
 use lib.ListN.{length}
 use Rattle.reach.proofs.Walking.{E}
-use Rattle.reach.proofs.Arranging.{lit_start, Sofar, sofar_start, sofar_past, sofar_on, sofar_end}
+use Rattle.reach.proofs.Arranging.{Sofar}
 use Rattle.reach.proofs.arrange.Given as goal
 
 abbrev pub invariant-loop-s : goal.invariant-loop-s

@@ -1,5 +1,4 @@
 -- One bit is put out.
-use borrow.Author.Rules.{rules}
 use Rattle.reach.proofs.Bits.{put_out}
 use Rattle.reach.proofs.clear.Goals as goal
 

@@ -1,13 +1,7 @@
 -- After w turns, the first w words of the row have nothing that is left.
-use Prim.Native.Nat.{ℕ, ◌+◌, ◌*◌, ◌-◌, ◌≤◌, ◌<◌}
-use native.Mathlib.Omega.{arith}
+use Prim.Native.Nat.{ℕ, ◌-◌, ◌≤◌, ◌<◌}
 use mathlib.Core.Path.{◌≡◌}
-use borrow.Author.Rules.{rules}
-use borrow.Author.Count.{below_more}
-use lib.ListN.{get_or}
-use lib.Bits.{and_le_r}
-use lib.Count.{trailing_le}
-use Rattle.reach.proofs.Bits.{shared, some_shared, none_shared}
+use Rattle.reach.proofs.Bits.{shared}
 use Rattle.reach.proofs.first_left.Given as goal
 
 abbrev pub invariant-loop-w : goal.invariant-loop-w

@@ -1,14 +1,7 @@
-use Prim.Native.Nat.{◌-◌, ◌≤◌}
 use native.Mathlib.Omega.{arith}
 use mathlib.Core.Path.{◌≡◌, refl, sym, ◌∙◌}
-use mathlib.Core.Bool.{false, ◌&&◌, ◌||◌}
-use mathlib.Core.Logic.{⊎_elim}
-use borrow.Author.Rules.{rules}
-use lib.ListN.{get_or}
-use lib.Dec.{eqb}
-use Rattle.graph.specs.Table.{grid}
 use Rattle.reach.specs.Back.{any_below}
-use Rattle.reach.proofs.Backing.{hits, hit_own, hit_led, no_start, no_way}
+use Rattle.reach.proofs.Backing.{hit_own, hit_led, no_start, no_way}
 use Rattle.reach.proofs.is_from.Goals as goal
 use Rattle.reach.proofs.is_from.Goals.{then-starts-s+else-s-i+else-leads, else-starts-s}
 

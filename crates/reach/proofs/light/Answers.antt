@@ -1,8 +1,5 @@
-use Prim.Native.Nat.{◌-◌, ◌≤◌}
 use native.Mathlib.Omega.{arith}
 use mathlib.Core.Path.{◌≡◌}
-use borrow.Author.Rules.{rules}
-use Rattle.reach.specs.Order.{Lit}
 use Rattle.reach.proofs.Arranging.{lit_on}
 use Rattle.reach.proofs.light.Goals as goal
 

@@ -1,10 +1,6 @@
 -- The places below s are lit.
 use Prim.Native.Nat.{◌-◌, ◌≤◌}
-use native.Mathlib.Omega.{arith}
-use mathlib.Core.Path.{◌≡◌}
-use borrow.Author.Rules.{rules}
 use Rattle.reach.specs.Order.{Lit}
-use Rattle.reach.proofs.Arranging.{lit_on}
 use Rattle.reach.proofs.light.Given as goal
 
 abbrev pub invariant-loop-s : goal.invariant-loop-s

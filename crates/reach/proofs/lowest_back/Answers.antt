@@ -1,10 +1,6 @@
-use Prim.Native.Nat.{◌+◌, ◌-◌, ◌≤◌}
 use native.Mathlib.Omega.{arith}
 use native.Mathlib.Nat.{sub-zero}
-use mathlib.Core.Path.{◌≡◌, refl, sym, ◌∙◌}
-use mathlib.Core.Logic.{⊎_elim}
-use borrow.Author.Rules.{rules}
-use Rattle.graph.specs.Ways.{lowest}
+use mathlib.Core.Path.{sym, ◌∙◌}
 use Rattle.graph.proofs.Rows.{low_at, low_next, low_none}
 use Rattle.reach.proofs.Backing.{back_at, closed_back, back_here, no_loop, not_from}
 use Rattle.reach.proofs.lowest_back.Goals as goal

@@ -1,13 +1,8 @@
 -- After i turns without a find, the search goes on at i.
-use Prim.Native.Nat.{◌+◌, ◌-◌, ◌≤◌}
-use native.Mathlib.Omega.{arith}
-use native.Mathlib.Nat.{sub-zero}
-use mathlib.Core.Path.{◌≡◌, refl, sym, ◌∙◌}
-use mathlib.Core.Logic.{⊎_elim}
-use borrow.Author.Rules.{rules}
+use Prim.Native.Nat.{◌-◌, ◌≤◌}
+use mathlib.Core.Path.{◌≡◌}
 use Rattle.graph.specs.Ways.{lowest}
-use Rattle.graph.proofs.Rows.{low_at, low_next, low_none}
-use Rattle.reach.proofs.Backing.{back_at, closed_back, back_here, no_loop, not_from}
+use Rattle.reach.proofs.Backing.{back_at}
 use Rattle.reach.proofs.lowest_back.Given as goal
 
 abbrev pub invariant-loop-i : goal.invariant-loop-i

@@ -1,9 +1,7 @@
-use Prim.Native.Nat.{◌+◌, ◌-◌}
 use native.Mathlib.Omega.{arith}
-use mathlib.Core.Path.{◌≡◌, sym, ◌∙◌}
-use borrow.Author.Rules.{rules}
+use mathlib.Core.Path.{sym, ◌∙◌}
 use lib.ListN.{length-set}
-use Rattle.reach.proofs.Walking.{Going, already, going_start, top_held, next, going_back, room, going_push, going_pop, going_end}
+use Rattle.reach.proofs.Walking.{already, going_start, top_held, next, going_back, room, going_push, going_pop, going_end}
 use Rattle.reach.proofs.walk.Goals as goal
 
 pub bounds-seen-start : goal.bounds-seen-start

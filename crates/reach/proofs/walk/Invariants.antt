@@ -1,10 +1,6 @@
 -- The stack is a way from the start, and what is in order has all its parts earlier.
 use Prim.Native.Nat.{◌+◌, ◌-◌}
-use native.Mathlib.Omega.{arith}
-use mathlib.Core.Path.{◌≡◌, sym, ◌∙◌}
-use borrow.Author.Rules.{rules}
-use lib.ListN.{length-set}
-use Rattle.reach.proofs.Walking.{Going, already, going_start, top_held, next, going_back, room, going_push, going_pop, going_end}
+use Rattle.reach.proofs.Walking.{Going}
 use Rattle.reach.proofs.walk.Given as goal
 
 abbrev pub invariant-loop-depth : goal.invariant-loop-depth

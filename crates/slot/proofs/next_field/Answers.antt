@@ -1,6 +1,5 @@
 use mathlib.Core.Path.{sym, ◌∙◌}
 use native.Mathlib.Omega.{arith}
-use borrow.Author.Rules.{rules}
 use Rattle.number.specs.Answers.{follow}
 use Rattle.slot.proofs.FourBytes.{short_bytes, short_next}
 use Rattle.slot.proofs.next_field.Goals as goal

@@ -1,7 +1,6 @@
 use mathlib.Core.Path.{sym, ◌∙◌}
 use Rattle.number.proofs.Reading.{told}
 use Rattle.slot.proofs.Steps.{slot_on, slot_refused}
-use borrow.Author.Rules.{rules}
 use Rattle.slot.proofs.read_slot.Goals as goal
 
 pub returns-in-Value : goal.returns-in-Value

@@ -7,7 +7,6 @@ use Rattle.number.proofs.Reading.{next_make}
 use Rattle.tree.proofs.Ranges.{past}
 use Rattle.slot.specs.Slot.{message, enum, flags, union, newtype, alias, trait, impl, slot_table, slot_body_at}
 use Rattle.slot.proofs.Steps.{past_table}
-use borrow.Author.Rules.{rules}
 use Rattle.slot.proofs.read_slot_body.Goals as goal
 
 pub returns-in-0 : goal.returns-in-0

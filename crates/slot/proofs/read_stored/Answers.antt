@@ -5,7 +5,6 @@ use Rattle.number.specs.Grammar.{value, read}
 use Rattle.number.proofs.Reading.{told}
 use Rattle.slot.specs.Field.{stored_table, fixed, from}
 use Rattle.slot.proofs.Steps.{stored_on, stored_refused, one_number, two_numbers, past_table}
-use borrow.Author.Rules.{rules}
 use Rattle.slot.proofs.read_stored.Goals as goal
 
 pub returns-in-0 : goal.returns-in-0

@@ -1,9 +1,6 @@
-use borrow.Author.Rules.{rules}
-use native.Mathlib.Omega.{arith}
-use mathlib.Core.Path.{◌≡◌, refl, sym, ◌∙◌}
+use mathlib.Core.Path.{◌≡◌}
 use Rattle.number.specs.Grammar.{many, read}
-use Rattle.number.specs.Answers.{next, follow}
-use Rattle.number.proofs.Reading.{many_none, many_on, many_stop}
+use Rattle.number.specs.Answers.{next}
 use Rattle.slot.specs.Field.{type_at}
 use Rattle.slot.proofs.read_types.Given as goal
 

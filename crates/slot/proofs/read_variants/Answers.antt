@@ -1,10 +1,6 @@
-use borrow.Author.Rules.{rules}
-use native.Mathlib.Omega.{arith}
-use mathlib.Core.Path.{◌≡◌, refl, sym, ◌∙◌}
-use Rattle.number.specs.Grammar.{many, read}
-use Rattle.number.specs.Answers.{next, follow}
+use mathlib.Core.Path.{refl, sym, ◌∙◌}
+use Rattle.number.specs.Answers.{follow}
 use Rattle.number.proofs.Reading.{many_none, many_on, many_stop}
-use Rattle.slot.specs.Field.{fields_at}
 use Rattle.slot.proofs.read_variants.Goals as goal
 
 pub loop-left-init : goal.loop-left-init

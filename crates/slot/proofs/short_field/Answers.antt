@@ -1,6 +1,5 @@
 use Rattle.slot.proofs.FourBytes.{too_near, by_bytes}
 use native.Mathlib.Omega.{arith}
-use borrow.Author.Rules.{rules}
 use Rattle.slot.proofs.short_field.Goals as goal
 
 pub returns-then-image-lt4 : goal.returns-then-image-lt4

@@ -1,5 +1,4 @@
 use Rattle.slot.proofs.FourBytes.{is_short_lem, long_name, no_name, nested_encoding, other_kind}
-use borrow.Author.Rules.{rules}
 use Rattle.slot.proofs.short_of.Goals as goal
 
 pub returns-then-number-short_limit : goal.returns-then-number-short_limit

@@ -1,7 +1,6 @@
 use Rattle.number.proofs.Reading.{steps2}
 use Rattle.slot.specs.Slot.{alias_at}
 use Rattle.number.specs.Grammar.{name}
-use borrow.Author.Rules.{rules}
 use Rattle.slot.proofs.skip_alias.Goals as goal
 
 pub returns : goal.returns

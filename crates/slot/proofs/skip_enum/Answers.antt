@@ -1,7 +1,6 @@
 use Rattle.number.proofs.Reading.{steps4}
 use Rattle.slot.specs.Slot.{enum_at}
 use Rattle.number.specs.Grammar.{value}
-use borrow.Author.Rules.{rules}
 use Rattle.slot.proofs.skip_enum.Goals as goal
 
 pub returns : goal.returns

@@ -1,7 +1,6 @@
 use Rattle.number.proofs.Reading.{steps4}
 use Rattle.slot.specs.Field.{field_at}
 use Rattle.number.specs.Grammar.{name}
-use borrow.Author.Rules.{rules}
 use Rattle.slot.proofs.skip_field.Goals as goal
 
 pub returns : goal.returns

@@ -1,7 +1,6 @@
 use Rattle.number.proofs.Reading.{steps2}
 use Rattle.slot.specs.Slot.{flags_at}
 use Rattle.number.specs.Grammar.{value}
-use borrow.Author.Rules.{rules}
 use Rattle.slot.proofs.skip_flags.Goals as goal
 
 pub returns : goal.returns

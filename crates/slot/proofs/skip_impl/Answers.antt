@@ -1,7 +1,6 @@
 use Rattle.number.proofs.Reading.{steps5}
 use Rattle.slot.specs.Slot.{impl_at}
 use Rattle.number.specs.Grammar.{slot}
-use borrow.Author.Rules.{rules}
 use Rattle.slot.proofs.skip_impl.Goals as goal
 
 pub returns : goal.returns

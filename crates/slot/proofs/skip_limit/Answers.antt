@@ -2,7 +2,6 @@ use mathlib.Core.Path.{sym}
 use Rattle.number.specs.Grammar.{value, read}
 use Rattle.number.proofs.Reading.{follow_at}
 use Rattle.slot.specs.Field.{limit_at}
-use borrow.Author.Rules.{rules}
 use Rattle.slot.proofs.skip_limit.Goals as goal
 
 pub returns-in-One : goal.returns-in-One

@@ -1,6 +1,5 @@
 use Rattle.number.proofs.Reading.{steps3}
 use Rattle.slot.specs.Slot.{message_at}
-use borrow.Author.Rules.{rules}
 use Rattle.slot.proofs.skip_message.Goals as goal
 
 pub returns : goal.returns

@@ -1,6 +1,5 @@
 use Rattle.number.proofs.Reading.{steps2}
 use Rattle.slot.specs.Slot.{newtype_at}
-use borrow.Author.Rules.{rules}
 use Rattle.slot.proofs.skip_newtype.Goals as goal
 
 pub returns : goal.returns

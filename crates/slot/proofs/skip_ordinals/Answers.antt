@@ -1,7 +1,6 @@
 use Rattle.number.specs.Grammar.{value}
 use Rattle.number.proofs.Reading.{steps2}
 use Rattle.slot.specs.Slot.{ordinals_at}
-use borrow.Author.Rules.{rules}
 use Rattle.slot.proofs.skip_ordinals.Goals as goal
 
 pub returns : goal.returns

@@ -1,7 +1,6 @@
 use Rattle.number.proofs.Reading.{steps2}
 use Rattle.slot.specs.Field.{span_at}
 use Rattle.number.specs.Grammar.{value}
-use borrow.Author.Rules.{rules}
 use Rattle.slot.proofs.skip_span.Goals as goal
 
 pub returns : goal.returns

@@ -1,6 +1,5 @@
 use mathlib.Core.Path.{sym, ◌∙◌}
 use Rattle.number.proofs.Reading.{follow_on, follow_stop}
-use borrow.Author.Rules.{rules}
 use Rattle.slot.proofs.skip_stored.Goals as goal
 
 pub returns-in-At : goal.returns-in-At

@@ -2,7 +2,6 @@ use mathlib.Core.Path.{sym, ◌∙◌}
 use Rattle.number.specs.Answers.{follow}
 use Rattle.number.proofs.Reading.{told, follow_on, follow_stop}
 use Rattle.slot.proofs.Steps.{span_absent, span_given, span_refused}
-use borrow.Author.Rules.{rules}
 use Rattle.slot.proofs.skip_trait_span.Goals as goal
 
 pub returns-then-given-eq0 : goal.returns-then-given-eq0

@@ -1,7 +1,6 @@
 use mathlib.Core.Path.{sym, ap, ◌∙◌}
 use Rattle.number.specs.Answers.{next}
 use Rattle.number.proofs.Reading.{told, counted_on, counted_refused, follow_on, follow_stop}
-use borrow.Author.Rules.{rules}
 use Rattle.slot.proofs.skip_variants.Goals as goal
 
 pub returns-in-Value : goal.returns-in-Value

@@ -4,7 +4,6 @@ use Rattle.number.proofs.Reading.{follow_on, follow_stop}
 use Rattle.tree.proofs.Shapes.{walk, tree_deep, tree_ends}
 use Rattle.tree.proofs.TwoBytes.{short_within, short_ends}
 use native.Mathlib.Omega.{arith}
-use borrow.Author.Rules.{rules}
 use Rattle.tree.proofs.+read_tree.Goals as goal
 
 pub returns-then-levels-eq0 : goal.returns-then-levels-eq0

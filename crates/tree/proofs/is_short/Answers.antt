@@ -1,5 +1,4 @@
 use native.Mathlib.Omega.{arith}
-use borrow.Author.Rules.{rules}
 use Rattle.tree.proofs.TwoBytes.{too_near, no_id, by_bytes}
 use Rattle.tree.proofs.is_short.Goals as goal
 

@@ -2,7 +2,6 @@ use mathlib.Core.Path.{sym, ap, ◌∙◌}
 use Rattle.number.specs.Grammar.{name}
 use Rattle.number.proofs.Reading.{told}
 use Rattle.tree.proofs.Shapes.{bits_on, bits_refused, counted_head}
-use borrow.Author.Rules.{rules}
 use Rattle.tree.proofs.read_bits.Goals as goal
 
 pub returns-in-At : goal.returns-in-At

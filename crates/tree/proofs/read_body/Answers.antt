@@ -3,9 +3,7 @@ use mathlib.Core.Path.{refl, sym, ◌∙◌}
 use Rattle.number.specs.Grammar.{value, name, read}
 use Rattle.tree.specs.Tree.{primitive, semantic, named, qualified}
 use Rattle.tree.specs.TreeAt.{body_at, id_role}
-use Rattle.tree.proofs.Ranges.{past}
 use Rattle.tree.proofs.Shapes.{shape_plain, body_one_low, body_two, body_one_high, body_none}
-use borrow.Author.Rules.{rules}
 use Rattle.tree.proofs.read_body.Goals as goal
 
 pub returns-in-0 : goal.returns-in-0

@@ -1,11 +1,7 @@
-use borrow.Author.Rules.{rules}
-use native.Mathlib.Omega.{arith}
-use mathlib.Core.Path.{◌≡◌, refl, sym, ◌∙◌}
+use mathlib.Core.Path.{◌≡◌}
 use Rattle.number.specs.Grammar.{read}
 use Rattle.number.specs.Answers.{next}
-use Rattle.number.proofs.Reading.{told}
 use Rattle.tree.specs.Encoding.{encoding_at}
-use Rattle.tree.proofs.Levels.{encoding_refused, encoding_deep, encoding_ends, encoding_on}
 use Rattle.tree.proofs.read_encoding.Given as goal
 
 abbrev pub invariant-loop-levels : goal.invariant-loop-levels

@@ -1,7 +1,6 @@
 use Rattle.number.specs.Grammar.{◌>>=◌, and_then, read}
 use Rattle.number.proofs.Reading.{told}
 use Rattle.tree.specs.TreeAt.{generic_at}
-use borrow.Author.Rules.{rules}
 use Rattle.tree.proofs.read_generic.Goals as goal
 
 pub returns-in-Value : goal.returns-in-Value

@@ -2,7 +2,6 @@ use Rattle.tree.proofs.Levels.{kinds_told}
 use mathlib.Core.Path.{sym, ◌∙◌}
 use Rattle.number.proofs.Reading.{told}
 use Rattle.tree.proofs.Shapes.{head_on, head_refused}
-use borrow.Author.Rules.{rules}
 use Rattle.tree.proofs.read_head.Goals as goal
 
 pub returns-in-Value : goal.returns-in-Value

@@ -1,7 +1,6 @@
 use mathlib.Core.Path.{sym, ap}
 use Rattle.number.proofs.Reading.{told}
 use Rattle.tree.specs.TreeAt.{plain_head}
-use borrow.Author.Rules.{rules}
 use Rattle.tree.proofs.read_plain.Goals as goal
 
 pub returns-in-Value : goal.returns-in-Value

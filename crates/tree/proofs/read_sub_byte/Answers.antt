@@ -3,7 +3,6 @@ use Rattle.number.specs.Grammar.{◌>>=◌, and_then, read}
 use Rattle.number.proofs.Reading.{told}
 use Rattle.tree.specs.TreeAt.{sub_byte_at}
 use Rattle.tree.proofs.Shapes.{sub_byte_on}
-use borrow.Author.Rules.{rules}
 use Rattle.tree.proofs.read_sub_byte.Goals as goal
 
 pub returns-in-Value : goal.returns-in-Value

@@ -1,7 +1,6 @@
 use Rattle.number.proofs.Reading.{told}
 use Rattle.tree.specs.Tree.{Tree}
 use Rattle.tree.proofs.Levels.{deep_at, deep_refused}
-use borrow.Author.Rules.{rules}
 use Rattle.tree.proofs.too_deep.Goals as goal
 
 pub returns-in-Value : goal.returns-in-Value
