@@ -6,7 +6,7 @@ use native.Mathlib.Omega.{arith}
 use lib.ListN.{get_or}
 use Rattle.number.specs.Grammar.{name, number, counted, Outcome, done, refused, read}
 use Rattle.number.proofs.Reading.{given}
-use Rattle.tree.specs.Tree.{Tree, Leaf, leaf, primitive, named, generic}
+use Rattle.tree.specs.Tree.{Tree, leaf, primitive, named, generic}
 use Rattle.tree.specs.TreeAt.{head_at, tree_at, shape}
 use Rattle.tree.specs.declared.Sort.TheVariants.{Expression}
 use Rattle.tree.specs.declared.Head.{Head}

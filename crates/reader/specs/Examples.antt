@@ -10,7 +10,7 @@ use Rattle.slot.specs.declared.Edition.TheVariants.{One, Two}
 use Rattle.slot.specs.Field.{none, span_at, stored_at, limit_at, field_at}
 use Rattle.slot.specs.Slot.{enum, message, message_at, retired_at, ordinals_at, enum_at, flags_at, newtype_at, alias_at, slot_body_at, slot_at}
 use Rattle.graph.specs.Ways.{via, lowest, has}
-use Rattle.image.specs.Schema.{Schema, slot_of}
+use Rattle.image.specs.Schema.{slot_of}
 use Rattle.image.specs.Image.{front_at, placed_at, declared_at, end_at, image_at, whole, image_of, schema_in, frame_in}
 use Rattle.loops.specs.Leads.{terminal_slots, generic_slots, slot_leads, leads, loop_of}
 use Rattle.reader.specs.Reading.{lost, lost_name, judged, reading_of, schema_of}

@@ -3,7 +3,7 @@ use Prim.Native.Nat.{ℕ, ◌^◌, ◌<◌}
 use mathlib.Core.Path.{◌≡◌, refl, sym, ap, subst, ◌∙◌}
 use mathlib.Core.List.{List}
 use mathlib.Core.Bool.{Bool, true, cond}
-use mathlib.Core.Option.{Option, none, some, none-ne-some}
+use mathlib.Core.Option.{none, some, none-ne-some}
 use mathlib.Core.Logic.{◌⊎◌, inl, inr, ⊎_elim}
 use native.Mathlib.Omega.{arith}
 use lib.Dec.{eqb}
@@ -13,8 +13,8 @@ use Rattle.number.specs.Answers.{next}
 use Rattle.number.specs.declared.Next.{Next}
 use Rattle.number.proofs.Reading.{read_bind, read_done, read_number, then_on, given}
 use Rattle.number.proofs.InRange.{below_is}
-use Rattle.tree.specs.Tree.{Tree, Leaf, Wrap, Pair, leaf, wrap, fixed_array, pair, generic, sub_byte, bits_inline, optional, array, set_of, vec2, vec3, vec4, quat, mat3, mat4, map_of, result_of, wrap_kind, pair_kind}
-use Rattle.tree.specs.TreeAt.{Node, none as no-child, one, two, sized, applied, sub_byte_at, bits_at, body_at, head_at, shape}
+use Rattle.tree.specs.Tree.{Tree, Leaf, Wrap, Pair, leaf, wrap, fixed_array, pair, generic, optional, array, set_of, vec2, vec3, vec4, quat, mat3, mat4, map_of, result_of, wrap_kind}
+use Rattle.tree.specs.TreeAt.{Node, none as no-child, sub_byte_at, bits_at, body_at, shape}
 use Rattle.tree.specs.declared.Sort.TheVariants.{Resolved}
 use Rattle.tree.specs.declared.Head.{Head}
 use Rattle.tree.proofs.Ranges.{each}

@@ -12,7 +12,7 @@ use Rattle.tree.specs.declared.Head.{Head}
 use Rattle.tree.proofs.Shapes.{Parts, parts}
 use Rattle.slot.specs.Field.{type_at}
 use Rattle.sizes.specs.declared.Operation.{Operation}
-use Rattle.sizes.specs.declared.Worked.TheVariants.{Sized, Over}
+use Rattle.sizes.specs.declared.Worked.TheVariants.{Over}
 use Rattle.sizes.specs.Elements.{count_of}
 use Rattle.sizes.specs.Sizes.{then, wrap_size}
 use Rattle.measures.proofs.ByKind.{kind_of, number_of}

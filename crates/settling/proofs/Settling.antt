@@ -8,11 +8,11 @@ use Rattle.number.specs.Grammar.{done, read}
 use Rattle.number.specs.Answers.{next}
 use Rattle.number.proofs.Reading.{then_done, given}
 use Rattle.tree.specs.Tree.{Tree, Leaf, leaf}
-use Rattle.slot.specs.Field.{type_at, limit_at, field_at, Field}
+use Rattle.slot.specs.Field.{limit_at, field_at, Field}
 use Rattle.tree.specs.Short.{short_leaf}
 use Rattle.slot.specs.Short.{short_at, short_encoding, short_field}
 use Rattle.slot.specs.declared.Short.{Short}
-use Rattle.slot.proofs.FourBytes.{short_bytes, type_reads, short_reads, short_kind, short_number}
+use Rattle.slot.proofs.FourBytes.{short_bytes, short_reads, short_kind, short_number}
 use Rattle.sizes.specs.Nodes.{field_nodes}
 use Rattle.sizes.specs.Sizes.{Resolver, leaf_size, type_size, encoded_size, field_alone, varint_end, zig_zag_end}
 use Rattle.sizes.specs.declared.Size.{Size}

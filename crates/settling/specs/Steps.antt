@@ -11,7 +11,7 @@ use Rattle.slot.specs.declared.Edition.TheVariants.{Two}
 use Rattle.image.specs.declared.Frame.{Frame}
 use Rattle.sizes.specs.declared.Size.{Size}
 use Rattle.sizes.specs.declared.Worked.{Worked}
-use Rattle.sizes.specs.declared.Worked.TheVariants.{Sized, Over}
+use Rattle.sizes.specs.declared.Worked.TheVariants.{Sized}
 use Rattle.sizes.specs.Elements.{count_of, Element, item, entry, limited_element}
 use Rattle.sizes.specs.Nodes.{type_nodes, field_nodes}
 use Rattle.sizes.specs.Sizes.{then, limited_sum, limited_product, Resolver, wrap_size, type_size, field_alone, raised, widened, multiplied, without_largest}

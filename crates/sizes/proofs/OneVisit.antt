@@ -16,7 +16,7 @@ use Rattle.graph.specs.Loops.{not_both, path_via, via_path, lowest_has, none_has
 use Rattle.graph.specs.declared.Lowest.{Lowest}
 use Rattle.image.specs.Schema.{Schema, slot_of}
 use Rattle.sizes.specs.Sizes.{Layout, Size, Open, Worked, Sized, Resolver}
-use Rattle.sizes.specs.Names.{content_in, content_of, content_size, anything, Content, State}
+use Rattle.sizes.specs.Names.{content_in, content_of, content_size, Content, State}
 use Rattle.sizes.specs.Check.{brought, body_size, own_size, accepted, turn}
 use Rattle.sizes.specs.Lengths.{parts_of, content_parts, Reaches, at_once, by_way_of, itself, reached, MadeOf, LeadsTo, NoLoop, NothingLeadsBack}
 use Rattle.sizes.specs.Demand.{Declared, BringsNone, Sizable, is_message, is_union}

@@ -1,6 +1,6 @@
 -- The provisos of demand 3 are needed: with one of them dropped, a clause is false of the table of some schema.
 use mathlib.Core.Path.{◌≡◌, refl}
-use Prim.Native.Nat.{ℕ, zero, suc, ◌+◌, ◌≤◌, ◌<◌}
+use Prim.Native.Nat.{ℕ, zero, suc, ◌≤◌, ◌<◌}
 use native.Mathlib.Omega.{arith}
 use mathlib.Core.List.Memᴰ
 use mathlib.Core.List.{List, [], ◌∷◌, Memᴰ}
@@ -9,7 +9,7 @@ use Rattle.tree.specs.Encoding.{default}
 use Rattle.slot.specs.Field.{Field, Stored}
 use Rattle.image.specs.Schema.{Schema, slot_of}
 use Rattle.sizes.specs.Elements.{limited_element}
-use Rattle.sizes.specs.Sizes.{Layout, Packed, Aligned, round_up, Size, Fixed, Bounded, Open, limited, then, primitive_bits, leaf_size, wrap_size, type_size, encoded_size, elements_size, field_size, add_fields}
+use Rattle.sizes.specs.Sizes.{Layout, Packed, Aligned, round_up, Size, Fixed, Open, limited, then, primitive_bits, leaf_size, type_size, encoded_size, elements_size, field_size, add_fields}
 use Rattle.sizes.specs.Names.{content_in, content_of, State, content_size, name_rule, name_within, name_size}
 use Rattle.sizes.specs.Check.{brought, body_size, own_size, store, accepted, storing, turn, onward, turns, check_sizes, slot_row, rows_from, table_of, size_at}
 use Rattle.sizes.specs.Lengths.{of_primitive, of_named, unlimited, plain, FieldsLength, no_field, one_field, of_message, SlotLength, type_parts, encoded_parts, own_parts, fields_parts, content_parts, parts_of, Reaches, at_once, by_way_of, NothingLeadsBack, Encloses}

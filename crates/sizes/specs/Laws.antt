@@ -6,7 +6,7 @@ use Rattle.std.proofs.Math.Decide.{dec_le}
 use Rattle.std.proofs.Math.Nat.{min-eq_left, max-eq_right}
 use Rattle.std.proofs.Math.Option.{Option, none, some}
 use Rattle.std.proofs.Math.Logic.{by_cases}
-use Rattle.number.specs.Shortest.{groups_within, groups_of}
+use Rattle.number.specs.Shortest.{groups_of}
 use Rattle.number.proofs.Shortest.{groups_one, groups_some, groups_rise}
 use Rattle.sizes.specs.Sizes.{both}
 use Rattle.sizes.specs.Lengths.{InSpan, AtMost}

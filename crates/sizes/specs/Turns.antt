@@ -12,7 +12,7 @@ use Rattle.image.specs.Schema.{Schema, slot_of}
 use Rattle.sizes.specs.Sizes.{Layout, Size, Operation, Worked, Sized, Over, Resolver, fields_size, union_size}
 use Rattle.sizes.specs.Names.{content_in, content_of, State, nothing, inserted, name_size}
 use Rattle.sizes.specs.Check.{brought, body_size, own_size, store, Checked, accepted, refused, storing, turn, onward, turns, check_sizes}
-use Rattle.sizes.specs.Lengths.{SlotLength, NothingLeadsBack, Encloses, Trusted, reached}
+use Rattle.sizes.specs.Lengths.{SlotLength, NothingLeadsBack, Encloses, Trusted}
 use Rattle.sizes.specs.Demand.{Sizable, is_message, is_union, Declared, Attained, BringsNone, LastTurn}
 use Rattle.sizes.specs.Enclosure.{own_enclosed}
 use Rattle.sizes.specs.Steady.{plain_size, own_plain, plain_attained}

@@ -1,7 +1,6 @@
 // Widths and sizes.
 #![tactic(auto)]
 
-
 // Smallest and largest length in bits: Fixed has both equal, Open has no largest.
 #[derive(Clone, Copy)]
 pub enum Size {

@@ -2,7 +2,6 @@
 use Prim.Native.Nat.{ℕ}
 use native.Mathlib.Omega.{arith}
 use mathlib.Core.Bool.{Bool, true, false}
-use borrow.Author.Rules.{rules}
 use lib.ListN.{length-replicate, get_or-replicate}
 use Rattle.bare.proofs.Ordering.{none_seen, in_order, leads_back}
 use Rattle.bare.proofs.has_order.Goals as goal

@@ -1,4 +1,3 @@
-use borrow.Author.Rules.{rules}
 use Rattle.bare.proofs.Ordering.{free_is}
 use Rattle.bare.proofs.is_free.Goals as goal
 

@@ -1,10 +1,5 @@
-use Prim.Native.Nat.{◌-◌, ◌≤◌}
 use native.Mathlib.Omega.{arith}
 use mathlib.Core.Path.{◌≡◌}
-use borrow.Author.Rules.{rules}
-use Rattle.loops.specs.Marks.{Filled}
-use Rattle.reader.specs.Reading.{schema_of}
-use Rattle.bare.specs.Bare.{bare_leads}
 use Rattle.bare.proofs.Runs.{rows_start, rows_on}
 use Rattle.bare.proofs.mark_bare.Goals as goal
 

@@ -1,12 +1,8 @@
 -- The rows of the slots passed have their marks.
 use Prim.Native.Nat.{◌-◌, ◌≤◌}
-use native.Mathlib.Omega.{arith}
-use mathlib.Core.Path.{◌≡◌}
-use borrow.Author.Rules.{rules}
 use Rattle.loops.specs.Marks.{Filled}
 use Rattle.reader.specs.Reading.{schema_of}
 use Rattle.bare.specs.Bare.{bare_leads}
-use Rattle.bare.proofs.Runs.{rows_start, rows_on}
 use Rattle.bare.proofs.mark_bare.Given as goal
 
 abbrev pub invariant-loop-i : goal.invariant-loop-i

@@ -1,4 +1,3 @@
-use borrow.Author.Rules.{rules}
 use Rattle.bare.proofs.Naming.{field_marked}
 use Rattle.bare.proofs.mark_field.Goals as goal
 

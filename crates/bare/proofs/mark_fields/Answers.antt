@@ -1,9 +1,7 @@
-use native.Mathlib.Omega.{arith}
-use mathlib.Core.Path.{◌≡◌, refl}
+use mathlib.Core.Path.{refl}
 use borrow.Author.Rules.{rules}
-use lib.ListN.{length}
 use Rattle.number.proofs.Reading.{told}
-use Rattle.bare.proofs.Runs.{Left, left_start, left_on, left_end, counted_marked, counted_not}
+use Rattle.bare.proofs.Runs.{left_start, left_on, left_end, counted_marked, counted_not}
 use Rattle.bare.proofs.mark_fields.Goals as goal
 
 pub returns-in_default : goal.returns-in_default

@@ -1,10 +1,7 @@
 -- What is marked so far and what is still to come are the whole run.
-use native.Mathlib.Omega.{arith}
-use mathlib.Core.Path.{◌≡◌, refl}
-use borrow.Author.Rules.{rules}
+use mathlib.Core.Path.{◌≡◌}
 use lib.ListN.{length}
-use Rattle.number.proofs.Reading.{told}
-use Rattle.bare.proofs.Runs.{Left, left_start, left_on, left_end, counted_marked, counted_not}
+use Rattle.bare.proofs.Runs.{Left}
 use Rattle.bare.proofs.mark_fields.Given as goal
 
 abbrev pub invariant-loop-left : goal.invariant-loop-left

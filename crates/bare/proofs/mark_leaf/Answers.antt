@@ -1,5 +1,4 @@
 use mathlib.Core.Path.{sym, ◌∙◌}
-use borrow.Author.Rules.{rules}
 use Rattle.loops.proofs.Marking.{led_none, led_one}
 use Rattle.bare.proofs.Naming.{leaf_none, leaf_named}
 use Rattle.bare.proofs.mark_leaf.Goals as goal

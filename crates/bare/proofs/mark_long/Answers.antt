@@ -1,4 +1,3 @@
-use borrow.Author.Rules.{rules}
 use Rattle.order.proofs.Leading.{type_place}
 use Rattle.bare.proofs.Naming.{typed_long}
 use Rattle.bare.proofs.mark_long.Goals as goal

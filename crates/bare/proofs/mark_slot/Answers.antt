@@ -1,6 +1,5 @@
 -- By the slot's kind.
 use mathlib.Core.Path.{sym, ◌∙◌}
-use borrow.Author.Rules.{rules}
 use Rattle.view.proofs.Insides.{fields_inside}
 use Rattle.reader.proofs.Fetching.{part_behind, not_missing}
 use Rattle.bare.proofs.Runs.{slot_message, slot_newtype, slot_other}

@@ -1,6 +1,5 @@
 use borrow.Enum.Refused.{opened}
 use mathlib.Core.Path.{sym, ◌∙◌}
-use borrow.Author.Rules.{rules}
 use Rattle.bare.proofs.Naming.{type_leaf, type_other}
 use Rattle.bare.proofs.mark_type.Goals as goal
 

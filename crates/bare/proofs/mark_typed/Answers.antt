@@ -1,6 +1,5 @@
 use mathlib.Core.Path.{sym, ◌∙◌}
 use native.Mathlib.Omega.{arith}
-use borrow.Author.Rules.{rules}
 use Rattle.slot.proofs.FourBytes.{short_bytes}
 use Rattle.bare.proofs.Naming.{typed_short}
 use Rattle.bare.proofs.mark_typed.Goals as goal

@@ -1,5 +1,4 @@
 use Rattle.findings.proofs.Noting.{six_put}
-use borrow.Author.Rules.{rules}
 use Rattle.findings.proofs.put_finding.Goals as goal
 
 pub returns : goal.returns

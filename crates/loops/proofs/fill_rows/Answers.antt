@@ -1,9 +1,5 @@
-use borrow.Author.Rules.{rules}
 use native.Mathlib.Omega.{arith}
-use Prim.Native.Nat.{◌-◌}
-use Rattle.loops.specs.Located.{Located}
-use Rattle.loops.proofs.Filling.{Rows, rows_start, rows_on, rows_end}
-use Rattle.slot.specs.declared.Edition.{Edition}
+use Rattle.loops.proofs.Filling.{rows_start, rows_on, rows_end}
 use Rattle.loops.proofs.fill_rows.Goals as goal
 
 pub loop-i-init : goal.loop-i-init

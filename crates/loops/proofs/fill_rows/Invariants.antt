@@ -1,9 +1,7 @@
 -- The loop's invariant: the rows of the slots passed have their marks. Assumes nothing.
-use borrow.Author.Rules.{rules}
-use native.Mathlib.Omega.{arith}
 use Prim.Native.Nat.{◌-◌}
 use Rattle.loops.specs.Located.{Located}
-use Rattle.loops.proofs.Filling.{Rows, rows_start, rows_on, rows_end}
+use Rattle.loops.proofs.Filling.{Rows}
 use Rattle.slot.specs.declared.Edition.{Edition}
 use Rattle.loops.proofs.fill_rows.Given as goal
 

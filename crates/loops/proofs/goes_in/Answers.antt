@@ -2,7 +2,6 @@
 use Rattle.graph.specs.Ways.{has}
 use Rattle.loops.specs.Marks.{enters}
 use Rattle.loops.proofs.Marking.{enters_rest, enters_not}
-use borrow.Author.Rules.{rules}
 use native.Mathlib.Omega.{arith}
 use Rattle.loops.proofs.goes_in.Goals as goal
 

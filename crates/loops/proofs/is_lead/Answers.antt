@@ -1,6 +1,5 @@
 -- The slot's kind is fetched, and compared. Assumes nothing.
 use mathlib.Core.Path.{sym, ◌∙◌}
-use borrow.Author.Rules.{rules}
 use Rattle.loops.proofs.is_lead.Goals as goal
 
 pub returns-in-At : goal.returns-in-At

@@ -2,7 +2,6 @@ use Prim.Native.Nat.{ℕ}
 use native.Mathlib.Omega.{arith}
 use lib.ListN.{length-replicate}
 use Rattle.loops.proofs.Filling.{lowest_is}
-use borrow.Author.Rules.{rules}
 use Rattle.loops.proofs.looped_in.Goals as goal
 
 pub fill_rows-requires : goal.fill_rows-requires

@@ -1,7 +1,6 @@
 use native.Mathlib.Omega.{arith}
 use mathlib.Core.Path.{refl}
 use Rattle.loops.proofs.Finding.{used_few, used_loop}
-use borrow.Author.Rules.{rules}
 use Rattle.loops.proofs.lowest_looped.Goals as goal
 
 pub slice_bounds-looped_in-end : goal.slice_bounds-looped_in-end

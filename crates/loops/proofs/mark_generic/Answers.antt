@@ -3,7 +3,6 @@ use mathlib.Core.Path.{refl}
 use Rattle.loops.specs.Marks.{name_slots}
 use Rattle.loops.proofs.Marking.{led_none, led_one, name_none, name_out, name_found}
 use native.Mathlib.Omega.{arith}
-use borrow.Author.Rules.{rules}
 use Rattle.loops.proofs.mark_generic.Goals as goal
 
 pub overflow_cast-find : goal.overflow_cast-find

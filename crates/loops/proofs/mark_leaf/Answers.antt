@@ -2,7 +2,6 @@
 use mathlib.Core.Path.{refl, sym, ◌∙◌}
 use Rattle.loops.specs.Leads.{tree_slots, generic_slots}
 use Rattle.loops.proofs.Marking.{led_none, led_one, leaf_none, leaf_named}
-use borrow.Author.Rules.{rules}
 use Rattle.loops.proofs.mark_leaf.Goals as goal
 
 pub returns-in-3 : goal.returns-in-3

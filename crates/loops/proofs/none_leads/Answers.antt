@@ -1,12 +1,5 @@
-use borrow.Author.Rules.{rules}
 use native.Mathlib.Omega.{arith}
-use Prim.Native.Nat.{ℕ, ◌-◌, ◌≤◌}
-use mathlib.Core.Path.{◌≡◌}
-use mathlib.Core.Bool.{true}
-use Rattle.loops.specs.Located.{slots_of, Located}
-use Rattle.loops.specs.Marks.{none_leads}
 use Rattle.loops.proofs.Leading.{none_first, none_all, passed, stopped}
-use Rattle.slot.specs.declared.Edition.{Edition}
 use Rattle.loops.proofs.none_leads.Goals as goal
 
 pub loop-i-init : goal.loop-i-init

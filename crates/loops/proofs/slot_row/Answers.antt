@@ -1,6 +1,5 @@
 -- The slot's tree is marked, or there is none. Assumes nothing.
 use Rattle.loops.proofs.Filling.{row_of, row_none}
-use borrow.Author.Rules.{rules}
 use Rattle.loops.proofs.slot_row.Goals as goal
 
 pub returns-then-is_lead : goal.returns-then-is_lead

@@ -1,4 +1,3 @@
-use borrow.Author.Rules.{rules}
 use Rattle.matching.proofs.ending.Goals as goal
 
 pub returns-in-Same : goal.returns-in-Same

@@ -1,5 +1,4 @@
 use Rattle.matching.proofs.Walk.{here_type, here_expression}
-use borrow.Author.Rules.{rules}
 use Rattle.matching.proofs.meaning_here.Goals as goal
 
 pub returns-in-Resolved : goal.returns-in-Resolved

@@ -1,5 +1,4 @@
 use Rattle.matching.proofs.Bits.{start_is, start_not}
-use borrow.Author.Rules.{rules}
 use Rattle.matching.proofs.names_start.Goals as goal
 
 pub returns-in-At : goal.returns-in-At

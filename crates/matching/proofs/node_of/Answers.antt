@@ -1,4 +1,3 @@
-use borrow.Author.Rules.{rules}
 use Rattle.matching.proofs.node_of.Goals as goal
 
 pub returns-in-Leaf : goal.returns-in-Leaf

@@ -1,7 +1,6 @@
 use mathlib.Core.Path.{sym, ◌∙◌}
 use Rattle.meanings.proofs.Ended.{alias_ranked}
 use Rattle.matching.proofs.Walk.{generic_id, generic_cut, generic_not}
-use borrow.Author.Rules.{rules}
 use Rattle.matching.proofs.same_generic.Goals as goal
 
 pub returns-in-At : goal.returns-in-At

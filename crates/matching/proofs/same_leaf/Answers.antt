@@ -1,5 +1,4 @@
 use Rattle.matching.proofs.Leaves.{kinds_differ, flags_differ, numbers_differ, numbers_same, bits_same, bits_differ}
-use borrow.Author.Rules.{rules}
 use Rattle.matching.proofs.same_leaf.Goals as goal
 
 pub returns-then-a-b : goal.returns-then-a-b

@@ -1,7 +1,5 @@
-use borrow.Author.Rules.{rules}
-use native.Mathlib.Omega.{arith}
 use Rattle.number.proofs.Reading.{told}
-use Rattle.matching.proofs.Leaves.{Left, names_start, names_end, names_on, names_differ, names_first, names_second}
+use Rattle.matching.proofs.Leaves.{names_start, names_end, names_on, names_differ, names_first, names_second}
 use Rattle.matching.proofs.same_names.Goals as goal
 
 pub loop-left-init : goal.loop-left-init

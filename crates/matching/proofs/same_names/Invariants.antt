@@ -1,7 +1,4 @@
-use borrow.Author.Rules.{rules}
-use native.Mathlib.Omega.{arith}
-use Rattle.number.proofs.Reading.{told}
-use Rattle.matching.proofs.Leaves.{Left, names_start, names_end, names_on, names_differ, names_first, names_second}
+use Rattle.matching.proofs.Leaves.{Left}
 use Rattle.matching.proofs.same_names.Given as goal
 
 abbrev pub invariant-loop-left : goal.invariant-loop-left

@@ -1,7 +1,6 @@
 use Rattle.number.proofs.Reading.{told}
 use Rattle.matching.specs.declared.Matched.{Matched}
 use Rattle.matching.proofs.Leaves.{size_same, size_differs, size_second, size_first}
-use borrow.Author.Rules.{rules}
 use Rattle.matching.proofs.same_size.Goals as goal
 
 pub returns-then-x-y : goal.returns-then-x-y

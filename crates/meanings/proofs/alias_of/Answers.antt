@@ -1,6 +1,5 @@
 use mathlib.Core.Path.{sym, ◌∙◌}
 use Rattle.meanings.proofs.Aliases.{alias_none, alias_missing, alias_other, alias_at_lem, alias_cut}
-use borrow.Author.Rules.{rules}
 use Rattle.meanings.proofs.alias_of.Goals as goal
 
 pub returns-then-found-eq0 : goal.returns-then-found-eq0

@@ -1,9 +1,7 @@
-use borrow.Author.Rules.{rules}
-use native.Mathlib.Omega.{arith}
 use mathlib.Core.Path.{sym, ◌∙◌}
 use Rattle.number.proofs.Reading.{told}
 use Rattle.meanings.specs.declared.Found.{Found}
-use Rattle.meanings.proofs.Arguments.{Left, at_start, no_name, no_type, is_here, one_on, type_not, name_not}
+use Rattle.meanings.proofs.Arguments.{at_start, no_name, no_type, is_here, one_on, type_not, name_not}
 use Rattle.meanings.proofs.argument_in.Goals as goal
 
 pub loop-left-init : goal.loop-left-init

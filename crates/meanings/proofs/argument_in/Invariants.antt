@@ -1,9 +1,4 @@
-use borrow.Author.Rules.{rules}
-use native.Mathlib.Omega.{arith}
-use mathlib.Core.Path.{sym, ◌∙◌}
-use Rattle.number.proofs.Reading.{told}
-use Rattle.meanings.specs.declared.Found.{Found}
-use Rattle.meanings.proofs.Arguments.{Left, at_start, no_name, no_type, is_here, one_on, type_not, name_not}
+use Rattle.meanings.proofs.Arguments.{Left}
 use Rattle.meanings.proofs.argument_in.Given as goal
 
 abbrev pub invariant-loop-left : goal.invariant-loop-left

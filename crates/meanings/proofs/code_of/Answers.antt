@@ -1,5 +1,4 @@
 use borrow.Author.Tests.{lt-ltb, le-ltb}
-use borrow.Author.Rules.{rules}
 use Rattle.meanings.proofs.code_of.Goals as goal
 
 pub returns-then-q-lt65536 : goal.returns-then-q-lt65536

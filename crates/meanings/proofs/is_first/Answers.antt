@@ -1,6 +1,5 @@
 use Rattle.number.proofs.Reading.{told}
 use Rattle.meanings.proofs.Arguments.{no_count, none_counted, first_here, first_refused}
-use borrow.Author.Rules.{rules}
 use Rattle.meanings.proofs.is_first.Goals as goal
 
 pub returns-then-count-eq0 : goal.returns-then-count-eq0

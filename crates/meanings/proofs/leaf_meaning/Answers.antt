@@ -1,5 +1,4 @@
 use Rattle.meanings.proofs.Leaves.{plain, qualified_name, no_name}
-use borrow.Author.Rules.{rules}
 use Rattle.meanings.proofs.leaf_meaning.Goals as goal
 
 pub returns-in-3 : goal.returns-in-3

@@ -1,5 +1,4 @@
 use Rattle.meanings.proofs.Leaves.{meaning_right, value_itself, value_id, value_type, value_not, value_right}
-use borrow.Author.Rules.{rules}
 use Rattle.meanings.proofs.leaf_value.Goals as goal
 
 pub returns-in-Itself : goal.returns-in-Itself

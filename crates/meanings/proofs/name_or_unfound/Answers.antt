@@ -1,4 +1,3 @@
-use borrow.Author.Rules.{rules}
 use Rattle.meanings.proofs.name_or_unfound.Goals as goal
 
 pub returns-in-Id : goal.returns-in-Id

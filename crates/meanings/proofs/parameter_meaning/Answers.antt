@@ -1,5 +1,4 @@
 use Rattle.meanings.proofs.Leaves.{table_at, table_none, first_id, first_no_name, not_first}
-use borrow.Author.Rules.{rules}
 use Rattle.meanings.proofs.parameter_meaning.Goals as goal
 
 pub returns-then-code-lt2 : goal.returns-then-code-lt2

@@ -1,6 +1,5 @@
 use mathlib.Core.Path.{sym}
 use lib.Seq.{set_out}
-use borrow.Author.Rules.{rules}
 use Rattle.meanings.proofs.put.Goals as goal
 
 pub returns-then-i-places : goal.returns-then-i-places

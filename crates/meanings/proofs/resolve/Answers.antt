@@ -1,6 +1,5 @@
 use mathlib.Core.Path.{sym, ◌∙◌}
 use Rattle.meanings.proofs.Leaves.{found_none, found_some}
-use borrow.Author.Rules.{rules}
 use Rattle.meanings.proofs.resolve.Goals as goal
 
 pub returns-then-found-eq0 : goal.returns-then-found-eq0

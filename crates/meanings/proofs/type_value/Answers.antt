@@ -1,6 +1,5 @@
 use mathlib.Core.Path.{sym, ◌∙◌}
 use Rattle.meanings.proofs.Leaves.{shape_is, name_is_lem, leaf_is}
-use borrow.Author.Rules.{rules}
 use Rattle.meanings.proofs.type_value.Goals as goal
 
 pub returns-in-3 : goal.returns-in-3

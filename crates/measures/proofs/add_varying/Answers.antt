@@ -2,7 +2,6 @@ use mathlib.Core.Path.{ap₂, ◌∙◌}
 use Rattle.sizes.specs.Sizes.{both, largest}
 use Rattle.measures.specs.Cut.{cut_sum, high_of}
 use Rattle.measures.proofs.Cutting.{summed}
-use borrow.Author.Rules.{rules}
 use Rattle.measures.proofs.add_varying.Goals as goal
 
 pub returns : goal.returns

@@ -1,6 +1,5 @@
 use mathlib.Core.Path.{◌∙◌}
 use Rattle.measures.proofs.Cutting.{cut_fixed}
-use borrow.Author.Rules.{rules}
 use Rattle.measures.proofs.add_wire_size.Goals as goal
 
 pub returns-in-Fixed-field : goal.returns-in-Fixed-field

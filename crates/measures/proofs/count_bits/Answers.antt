@@ -7,7 +7,6 @@ use Rattle.sizes.specs.declared.Operation.TheVariants.{Sum}
 use Rattle.sizes.specs.Sizes.{limited}
 use Rattle.measures.specs.Cut.{cut_sum}
 use Rattle.measures.proofs.Cutting.{cut_bounded}
-use borrow.Author.Rules.{rules}
 use Rattle.measures.proofs.count_bits.Goals as goal
 
 pub overflow_mul-groups_of : goal.overflow_mul-groups_of

@@ -1,4 +1,3 @@
-use borrow.Author.Rules.{rules}
 use Rattle.measures.proofs.drop_largest.Goals as goal
 
 pub returns-in-Fixed : goal.returns-in-Fixed

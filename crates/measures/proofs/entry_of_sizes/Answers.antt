@@ -3,7 +3,6 @@ use native.Mathlib.Omega.{arith}
 use Rattle.sizes.specs.Sizes.{both, largest}
 use Rattle.measures.specs.Cut.{cut_sum, high_of}
 use Rattle.measures.proofs.Cutting.{summed}
-use borrow.Author.Rules.{rules}
 use Rattle.measures.proofs.entry_of_sizes.Goals as goal
 
 pub returns : goal.returns

@@ -1,6 +1,5 @@
 use mathlib.Core.Path.{◌∙◌}
 use Rattle.sizes.specs.Sizes.{then}
-use borrow.Author.Rules.{rules}
 use Rattle.measures.proofs.entry_wire_size.Goals as goal
 
 pub returns-in-Sized : goal.returns-in-Sized

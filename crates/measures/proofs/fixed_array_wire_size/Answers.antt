@@ -1,4 +1,3 @@
-use borrow.Author.Rules.{rules}
 use Rattle.measures.proofs.fixed_array_wire_size.Goals as goal
 
 pub returns : goal.returns

@@ -1,6 +1,5 @@
 use mathlib.Core.Path.{◌∙◌}
 use Rattle.sizes.specs.Sizes.{then}
-use borrow.Author.Rules.{rules}
 use Rattle.measures.proofs.lay.Goals as goal
 
 pub returns-in-Packed : goal.returns-in-Packed

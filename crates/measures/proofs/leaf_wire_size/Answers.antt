@@ -8,7 +8,6 @@ use Rattle.sizes.specs.Sizes.{leaf_size}
 use Rattle.measures.specs.Heads.{leaf_of}
 use Rattle.measures.proofs.Spans.{up}
 use Rattle.measures.proofs.ByKind.{leaf_rest}
-use borrow.Author.Rules.{rules}
 use Rattle.measures.proofs.leaf_wire_size.Goals as goal
 
 pub returns-in-0 : goal.returns-in-0

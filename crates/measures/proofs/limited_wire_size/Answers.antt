@@ -1,6 +1,5 @@
 use mathlib.Core.Path.{ap, ◌∙◌}
 use Rattle.sizes.specs.Sizes.{then, up_to}
-use borrow.Author.Rules.{rules}
 use Rattle.measures.proofs.limited_wire_size.Goals as goal
 
 pub returns-in-Sized : goal.returns-in-Sized

@@ -3,7 +3,6 @@ use mathlib.Core.Option.{some}
 use Rattle.sizes.specs.Sizes.{both, largest}
 use Rattle.measures.specs.Cut.{cut_sum, high_of}
 use Rattle.measures.proofs.Cutting.{one_more}
-use borrow.Author.Rules.{rules}
 use Rattle.measures.proofs.optional_wire_size.Goals as goal
 
 pub returns : goal.returns

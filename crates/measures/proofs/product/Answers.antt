@@ -1,6 +1,5 @@
 use native.Mathlib.Omega.{arith}
 use Rattle.measures.proofs.Cutting.{product_none, product_past, product_within, product_same}
-use borrow.Author.Rules.{rules}
 use Rattle.measures.proofs.product.Goals as goal
 
 pub overflow_mul-result : goal.overflow_mul-result

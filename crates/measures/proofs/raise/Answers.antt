@@ -1,4 +1,3 @@
-use borrow.Author.Rules.{rules}
 use Rattle.measures.proofs.raise.Goals as goal
 
 pub returns : goal.returns

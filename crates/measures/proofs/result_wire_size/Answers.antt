@@ -1,4 +1,3 @@
-use borrow.Author.Rules.{rules}
 use Rattle.measures.proofs.result_wire_size.Goals as goal
 
 pub returns : goal.returns

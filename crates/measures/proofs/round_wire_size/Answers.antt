@@ -1,5 +1,4 @@
 use Rattle.measures.proofs.Cutting.{cut_fixed, cut_bounded, cut_open}
-use borrow.Author.Rules.{rules}
 use Rattle.measures.proofs.round_wire_size.Goals as goal
 
 pub returns-in-Fixed : goal.returns-in-Fixed

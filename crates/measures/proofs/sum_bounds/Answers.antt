@@ -1,4 +1,3 @@
-use borrow.Author.Rules.{rules}
 use Rattle.measures.proofs.sum_bounds.Goals as goal
 
 pub returns-in-Most-b : goal.returns-in-Most-b

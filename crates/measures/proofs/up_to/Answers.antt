@@ -1,7 +1,6 @@
 use mathlib.Core.Path.{ap}
 use Rattle.measures.specs.Cut.{high_of}
 use Rattle.measures.proofs.Cutting.{up_to_open, up_to_sized, up_to_over}
-use borrow.Author.Rules.{rules}
 use Rattle.measures.proofs.up_to.Goals as goal
 
 pub returns-in-Sized : goal.returns-in-Sized

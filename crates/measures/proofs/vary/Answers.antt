@@ -1,4 +1,3 @@
-use borrow.Author.Rules.{rules}
 use Rattle.measures.proofs.vary.Goals as goal
 
 pub returns-in-Most : goal.returns-in-Most

@@ -1,4 +1,3 @@
-use borrow.Author.Rules.{rules}
 use Rattle.measures.proofs.widen.Goals as goal
 
 pub returns : goal.returns

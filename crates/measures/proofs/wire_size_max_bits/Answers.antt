@@ -1,6 +1,5 @@
 use mathlib.Core.Path.{ap, sym}
 use Rattle.sizes.specs.Sizes.{largest}
-use borrow.Author.Rules.{rules}
 use Rattle.measures.proofs.wire_size_max_bits.Goals as goal
 
 pub returns-in-Fixed : goal.returns-in-Fixed

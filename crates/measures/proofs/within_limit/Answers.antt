@@ -1,5 +1,4 @@
 use Rattle.measures.proofs.Cutting.{fixed_over, fixed_sized, low_over, high_over, bounded_sized, open_over, open_sized}
-use borrow.Author.Rules.{rules}
 use Rattle.measures.proofs.within_limit.Goals as goal
 
 pub returns-then-b-gt9223372036854775807 : goal.returns-then-b-gt9223372036854775807

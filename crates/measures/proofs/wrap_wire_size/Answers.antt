@@ -1,7 +1,6 @@
 use Rattle.sizes.specs.Sizes.{wrap_size, then}
 use Rattle.measures.specs.Heads.{wrap_of}
 use Rattle.measures.proofs.ByKind.{wrap_rest}
-use borrow.Author.Rules.{rules}
 use Rattle.measures.proofs.wrap_wire_size.Goals as goal
 
 pub returns-in-4 : goal.returns-in-4

@@ -1,5 +1,4 @@
 use Rattle.order.proofs.Leading.{led_field}
-use borrow.Author.Rules.{rules}
 use Rattle.order.proofs.field_leads_on.Goals as goal
 
 pub returns : goal.returns

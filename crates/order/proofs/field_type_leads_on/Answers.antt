@@ -2,7 +2,6 @@ use mathlib.Core.Path.{sym, ◌∙◌}
 use native.Mathlib.Omega.{arith}
 use Rattle.slot.proofs.FourBytes.{short_bytes}
 use Rattle.order.proofs.Leading.{led_short}
-use borrow.Author.Rules.{rules}
 use Rattle.order.proofs.field_type_leads_on.Goals as goal
 
 pub overflow_add-result : goal.overflow_add-result

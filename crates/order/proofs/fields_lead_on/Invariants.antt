@@ -1,10 +1,6 @@
-use borrow.Author.Rules.{rules}
-use native.Mathlib.Omega.{arith}
-use borrow.Author.Tests.{not-true, not-false}
-use Rattle.number.proofs.Reading.{told}
 use Rattle.reader.specs.Reading.{schema_of}
 use Rattle.order.specs.Order.{leads_on}
-use Rattle.order.proofs.Leading.{Left, left_start, left_on, left_stop, left_end, counted_led, counted_not}
+use Rattle.order.proofs.Leading.{Left}
 use Rattle.order.proofs.fields_lead_on.Given as goal
 
 abbrev pub invariant-loop-left : goal.invariant-loop-left

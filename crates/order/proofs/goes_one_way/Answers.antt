@@ -1,7 +1,5 @@
 use native.Mathlib.Omega.{arith}
-use Prim.Native.Nat.{◌-◌}
-use Rattle.reader.specs.Reading.{schema_of}
-use Rattle.order.proofs.Leading.{Sofar, sofar_start, sofar_on, sofar_stop, sofar_end}
+use Rattle.order.proofs.Leading.{sofar_start, sofar_on, sofar_stop, sofar_end}
 use Rattle.order.proofs.goes_one_way.Goals as goal
 
 pub loop-i-init : goal.loop-i-init

@@ -1,7 +1,6 @@
-use native.Mathlib.Omega.{arith}
 use Prim.Native.Nat.{◌-◌}
 use Rattle.reader.specs.Reading.{schema_of}
-use Rattle.order.proofs.Leading.{Sofar, sofar_start, sofar_on, sofar_stop, sofar_end}
+use Rattle.order.proofs.Leading.{Sofar}
 use Rattle.order.proofs.goes_one_way.Given as goal
 
 abbrev pub invariant-loop-i : goal.invariant-loop-i

@@ -2,7 +2,6 @@ use mathlib.Core.Bool.{true≢false}
 use borrow.Author.Tests.{eqb-false}
 use Rattle.number.proofs.Reading.{told}
 use Rattle.order.proofs.Leading.{not_name}
-use borrow.Author.Rules.{rules}
 use Rattle.order.proofs.is_name.Goals as goal
 
 pub returns-in-Value : goal.returns-in-Value

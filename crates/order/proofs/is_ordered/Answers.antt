@@ -1,6 +1,5 @@
 use mathlib.Core.Path.{sym, ◌∙◌}
 use Rattle.order.proofs.Leading.{ordered_down, ordered_up}
-use borrow.Author.Rules.{rules}
 use Rattle.order.proofs.is_ordered.Goals as goal
 
 pub returns-then-goes_one_way : goal.returns-then-goes_one_way

@@ -2,7 +2,6 @@ use native.Mathlib.Omega.{arith}
 use mathlib.Core.Path.{sym, ◌∙◌}
 use Rattle.reader.proofs.Fetching.{part_behind, not_missing}
 use Rattle.order.proofs.Leading.{leads_lower, leads_past, leads_bare, leads_free}
-use borrow.Author.Rules.{rules}
 use Rattle.order.proofs.leads_on.Goals as goal
 
 pub returns-then-is_lower : goal.returns-then-is_lower

@@ -1,6 +1,5 @@
 use mathlib.Core.Path.{◌∙◌}
 use Rattle.order.proofs.Leading.{leaf_name, leaf_other}
-use borrow.Author.Rules.{rules}
 use Rattle.order.proofs.leaf_leads_on.Goals as goal
 
 pub returns-in-3 : goal.returns-in-3

@@ -1,5 +1,4 @@
 use Rattle.order.proofs.Leading.{type_place, led_long}
-use borrow.Author.Rules.{rules}
 use Rattle.order.proofs.long_field_leads_on.Goals as goal
 
 pub returns : goal.returns

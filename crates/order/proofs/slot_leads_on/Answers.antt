@@ -2,7 +2,6 @@ use mathlib.Core.Path.{sym, ◌∙◌}
 use Rattle.view.proofs.Insides.{fields_inside}
 use Rattle.reader.proofs.Fetching.{part_behind, not_missing}
 use Rattle.order.proofs.Leading.{slot_message, slot_newtype, slot_other}
-use borrow.Author.Rules.{rules}
 use Rattle.order.proofs.slot_leads_on.Goals as goal
 
 pub returns-in_default : goal.returns-in_default

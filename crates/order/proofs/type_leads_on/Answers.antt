@@ -1,7 +1,6 @@
 use borrow.Enum.Refused.{opened}
 use mathlib.Core.Path.{sym, ◌∙◌}
 use Rattle.order.proofs.Leading.{led_leaf, not_leaf, led_other}
-use borrow.Author.Rules.{rules}
 use Rattle.order.proofs.type_leads_on.Goals as goal
 use Rattle.order.proofs.type_leads_on.Goals.{then-is_name+in_default, else-is_name}
 

@@ -1,8 +1,6 @@
 use mathlib.Core.Path.{sym, ◌∙◌}
 use Rattle.number.proofs.Reading.{told}
 use Rattle.parts.proofs.Listing.{list_deep, list_leaf, list_one, list_two, list_sized, list_unsized, list_generic, list_refused}
-use native.Mathlib.Omega.{arith}
-use borrow.Author.Rules.{rules}
 use Rattle.parts.proofs.+list_type.Goals as goal
 
 pub returns-then-levels-eq0 : goal.returns-then-levels-eq0

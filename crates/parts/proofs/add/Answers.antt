@@ -1,5 +1,4 @@
 use Rattle.parts.proofs.Listing.{push_in, push_out}
-use borrow.Author.Rules.{rules}
 use Rattle.parts.proofs.add.Goals as goal
 
 pub returns-then-used-parts : goal.returns-then-used-parts

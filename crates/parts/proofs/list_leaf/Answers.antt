@@ -1,6 +1,5 @@
 use mathlib.Core.Path.{◌∙◌}
 use Rattle.parts.proofs.Listing.{leaf_in, leaf_past, leaf_not}
-use borrow.Author.Rules.{rules}
 use Rattle.parts.proofs.list_leaf.Goals as goal
 
 pub returns-then-number-lt512 : goal.returns-then-number-lt512

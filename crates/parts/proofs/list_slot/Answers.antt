@@ -2,7 +2,6 @@ use mathlib.Core.Path.{sym, ◌∙◌}
 use Rattle.view.proofs.Insides.{fields_inside, variants_inside}
 use Rattle.reader.proofs.Fetching.{part_behind, not_missing}
 use Rattle.parts.proofs.Listing.{list_message, list_union, list_newtype, list_other}
-use borrow.Author.Rules.{rules}
 use Rattle.parts.proofs.list_slot.Goals as goal
 
 pub returns-in_default : goal.returns-in_default

@@ -1,9 +1,8 @@
 use borrow.Author.Rules.{rules}
 use native.Mathlib.Omega.{arith}
-use mathlib.Core.Path.{◌≡◌, refl}
-use Prim.Native.Nat.{◌-◌, ◌≤◌}
-use lib.ListN.{length}
-use Rattle.parts.proofs.Tabling.{Sofar, sofar_start, sofar_on, sofar_end, small_used}
+use mathlib.Core.Path.{refl}
+use Prim.Native.Nat.{◌≤◌}
+use Rattle.parts.proofs.Tabling.{sofar_start, sofar_on, sofar_end, small_used}
 use Rattle.parts.proofs.list_slots.Goals as goal
 
 pub loop-i-init : goal.loop-i-init

@@ -1,9 +1,7 @@
-use borrow.Author.Rules.{rules}
-use native.Mathlib.Omega.{arith}
-use mathlib.Core.Path.{◌≡◌, refl}
-use Prim.Native.Nat.{◌-◌, ◌≤◌}
+use mathlib.Core.Path.{◌≡◌}
+use Prim.Native.Nat.{◌-◌}
 use lib.ListN.{length}
-use Rattle.parts.proofs.Tabling.{Sofar, sofar_start, sofar_on, sofar_end, small_used}
+use Rattle.parts.proofs.Tabling.{Sofar}
 use Rattle.parts.proofs.list_slots.Given as goal
 
 abbrev pub invariant-loop-i : goal.invariant-loop-i

@@ -1,12 +1,9 @@
-use borrow.Author.Rules.{rules}
-use native.Mathlib.Omega.{arith}
-use mathlib.Core.Path.{◌≡◌, refl}
+use mathlib.Core.Path.{◌≡◌}
 use lib.ListN.{length}
-use Rattle.number.proofs.Reading.{told}
 use Rattle.slot.specs.Field.{fields_at}
 use Rattle.parts.specs.Names.{variant_names}
 use Rattle.parts.specs.Lists.{filled}
-use Rattle.parts.proofs.Listing.{Left, left_start, left_on, left_end, counted_list, counted_not}
+use Rattle.parts.proofs.Listing.{Left}
 use Rattle.parts.proofs.list_variants.Given as goal
 
 abbrev pub invariant-loop-left : goal.invariant-loop-left

@@ -1,5 +1,4 @@
 use Rattle.parts.proofs.Listing.{type_at_lem, type_not}
-use borrow.Author.Rules.{rules}
 use Rattle.parts.proofs.type_place.Goals as goal
 
 pub returns-in-At : goal.returns-in-At

@@ -1,6 +1,5 @@
 use mathlib.Core.Path.{sym, ◌∙◌}
 use Rattle.reader.proofs.Losing.{lost_none, lost_part}
-use borrow.Author.Rules.{rules}
 use Rattle.reader.proofs.is_lost.Goals as goal
 
 pub returns-then-find-eq0 : goal.returns-then-find-eq0

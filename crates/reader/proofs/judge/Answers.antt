@@ -1,7 +1,6 @@
 use Rattle.tree.specs.declared.Sort.TheVariants.{Resolved, Expression}
 use Rattle.reader.proofs.Telling.{judged_by}
 use Rattle.reader.proofs.Judging.{located, few_names_lem, told_names, told_loop}
-use borrow.Author.Rules.{rules}
 use Rattle.reader.proofs.judge.Goals as goal
 
 pub lost_name-lost-requires : goal.lost_name-lost-requires

@@ -2,7 +2,6 @@
 use mathlib.Core.Path.{sym, ◌∙◌}
 use Rattle.loops.specs.Refusals.{slots_past}
 use Rattle.loops.proofs.Leading.{nothing_looped}
-use borrow.Author.Rules.{rules}
 use Rattle.reader.proofs.looped.Goals as goal
 
 pub returns-then-none_leads : goal.returns-then-none_leads

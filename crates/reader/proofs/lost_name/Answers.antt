@@ -1,11 +1,6 @@
-use borrow.Author.Rules.{rules}
-use native.Mathlib.Omega.{arith}
-use Prim.Native.Nat.{◌-◌}
 use mathlib.Core.Path.{◌∙◌}
 use Rattle.number.proofs.Reading.{told}
-use Rattle.slot.specs.declared.Edition.{Edition}
-use Rattle.loops.specs.Located.{slots_of, Located}
-use Rattle.reader.proofs.Losing.{lost_is, Turn, first_turn, last_turn, stop_turn, found_turn, next_turn}
+use Rattle.reader.proofs.Losing.{lost_is, first_turn, last_turn, stop_turn, found_turn, next_turn}
 use Rattle.reader.proofs.lost_name.Goals as goal
 
 pub loop-n-init : goal.loop-n-init

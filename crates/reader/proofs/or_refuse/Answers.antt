@@ -1,5 +1,4 @@
 use Rattle.reader.proofs.Telling.{refused_at}
-use borrow.Author.Rules.{rules}
 use Rattle.reader.proofs.or_refuse.Goals as goal
 
 pub returns-in-At : goal.returns-in-At

@@ -1,5 +1,4 @@
 use Rattle.reader.proofs.Judging.{accepted_table, refused_table}
-use borrow.Author.Rules.{rules}
 use Rattle.reader.proofs.read_edition.Goals as goal
 
 pub returns-in-Accepted : goal.returns-in-Accepted

@@ -1,7 +1,6 @@
 use mathlib.Core.Path.{sym, ◌∙◌}
 use native.Mathlib.Omega.{arith}
 use Rattle.reader.proofs.Judging.{first_places, seen, judged_said, refused_said}
-use borrow.Author.Rules.{rules}
 use Rattle.reader.proofs.read_into.Goals as goal
 
 pub slice_bounds-judge-end : goal.slice_bounds-judge-end

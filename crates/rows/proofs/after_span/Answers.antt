@@ -1,5 +1,4 @@
 use Rattle.rows.proofs.Slots.{span_end_lem}
-use borrow.Author.Rules.{rules}
 use Rattle.rows.proofs.after_span.Goals as goal
 
 pub returns : goal.returns

@@ -1,6 +1,5 @@
 use mathlib.Core.Path.{sym, ◌∙◌}
 use Rattle.rows.proofs.Slots.{brings_message, brings_union, brings_other, brings_missing}
-use borrow.Author.Rules.{rules}
 use Rattle.rows.proofs.brings_size.Goals as goal
 
 pub returns-in-1 : goal.returns-in-1

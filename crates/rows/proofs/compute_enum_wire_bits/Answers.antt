@@ -3,7 +3,6 @@ use native.Mathlib.Omega.{arith}
 use mathlib.Core.Path.{refl, ◌∙◌}
 use Rattle.sizes.specs.Widths.{bit_length_is}
 use Rattle.rows.proofs.Widths.{by_ordinals, by_backing, no_backing}
-use borrow.Author.Rules.{rules}
 use Rattle.rows.proofs.compute_enum_wire_bits.Goals as goal
 
 pub overflow_cast-top : goal.overflow_cast-top

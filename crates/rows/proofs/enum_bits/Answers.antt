@@ -1,5 +1,4 @@
 use Rattle.rows.proofs.Slots.{enum_stored, enum_worked}
-use borrow.Author.Rules.{rules}
 use Rattle.rows.proofs.enum_bits.Goals as goal
 
 pub returns-then-declared : goal.returns-then-declared

@@ -1,5 +1,4 @@
 use Rattle.rows.proofs.Slots.{flags_stored, flags_worked}
-use borrow.Author.Rules.{rules}
 use Rattle.rows.proofs.flags_bytes.Goals as goal
 
 pub returns-then-declared : goal.returns-then-declared

@@ -1,5 +1,4 @@
 use Rattle.rows.proofs.Slots.{counted_tops}
-use borrow.Author.Rules.{rules}
 use Rattle.rows.proofs.highest_counted.Goals as goal
 
 pub returns : goal.returns

@@ -1,9 +1,5 @@
-use borrow.Author.Rules.{rules}
-use native.Mathlib.Omega.{arith}
-use Prim.Native.Nat.{◌^◌}
-use Rattle.number.specs.Grammar.{value}
 use Rattle.sizes.specs.Widths.{highest}
-use Rattle.rows.proofs.Taking.{Run, first_run, next_run, last_run, run_end}
+use Rattle.rows.proofs.Taking.{first_run, next_run, last_run, run_end}
 use Rattle.rows.proofs.Widths.{highest_first, highest_none}
 use Rattle.rows.proofs.highest_of.Goals as goal
 

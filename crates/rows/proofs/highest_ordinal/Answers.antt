@@ -1,5 +1,4 @@
 use Rattle.rows.proofs.Slots.{live_top, both_top}
-use borrow.Author.Rules.{rules}
 use Rattle.rows.proofs.highest_ordinal.Goals as goal
 
 pub returns-in-One : goal.returns-in-One

@@ -1,5 +1,4 @@
 use Rattle.rows.proofs.Slots.{not_there, stored_there}
-use borrow.Author.Rules.{rules}
 use Rattle.rows.proofs.is_stored.Goals as goal
 
 pub returns-in-0 : goal.returns-in-0

@@ -1,5 +1,4 @@
 use Rattle.rows.proofs.Widths.{least_other}
-use borrow.Author.Rules.{rules}
 use Rattle.rows.proofs.least_bits.Goals as goal
 
 pub returns-in_default : goal.returns-in_default

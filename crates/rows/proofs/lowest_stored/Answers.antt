@@ -1,9 +1,6 @@
-use borrow.Author.Rules.{rules}
-use native.Mathlib.Omega.{arith}
-use Prim.Native.Nat.{◌-◌}
 use mathlib.Core.Path.{sym, ◌∙◌}
 use Rattle.reader.specs.Reading.{schema_of}
-use Rattle.rows.proofs.Storing.{Left, none_yet, found_here, not_here, nowhere}
+use Rattle.rows.proofs.Storing.{none_yet, found_here, not_here, nowhere}
 use Rattle.rows.proofs.lowest_stored.Goals as goal
 
 pub loop-i-init : goal.loop-i-init

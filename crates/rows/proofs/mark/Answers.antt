@@ -1,7 +1,6 @@
 use mathlib.Core.Path.{sym}
 use native.Mathlib.Omega.{arith}
 use lib.Seq.{set_out}
-use borrow.Author.Rules.{rules}
 use Rattle.rows.proofs.mark.Goals as goal
 
 pub returns-else-slot-marks : goal.returns-else-slot-marks

@@ -1,10 +1,6 @@
-use borrow.Author.Rules.{rules}
-use native.Mathlib.Omega.{arith}
-use Prim.Native.Nat.{◌^◌}
-use mathlib.Core.Path.{◌≡◌, refl, ◌∙◌, ap}
+use mathlib.Core.Path.{refl, ◌∙◌, ap}
 use lib.ListN.{length, length-set}
-use Rattle.number.specs.Grammar.{slot}
-use Rattle.rows.proofs.Taking.{Run, first_run, next_run, last_run}
+use Rattle.rows.proofs.Taking.{first_run, next_run, last_run}
 use Rattle.rows.proofs.Marking.{marked, mark_first, mark_none, marked_is}
 use Rattle.rows.proofs.mark_declared.Goals as goal
 

@@ -1,11 +1,9 @@
-use borrow.Author.Rules.{rules}
-use native.Mathlib.Omega.{arith}
 use Prim.Native.Nat.{◌^◌}
-use mathlib.Core.Path.{◌≡◌, refl, ◌∙◌, ap}
-use lib.ListN.{length, length-set}
+use mathlib.Core.Path.{◌≡◌}
+use lib.ListN.{length}
 use Rattle.number.specs.Grammar.{slot}
-use Rattle.rows.proofs.Taking.{Run, first_run, next_run, last_run}
-use Rattle.rows.proofs.Marking.{marked, mark_first, mark_none, marked_is}
+use Rattle.rows.proofs.Taking.{Run}
+use Rattle.rows.proofs.Marking.{marked}
 use Rattle.rows.proofs.mark_declared.Given as goal
 
 abbrev pub invariant-loop-left : goal.invariant-loop-left

@@ -2,7 +2,6 @@ use Prim.Native.Nat.{◌*◌}
 use Rattle.rows.proofs.Table.{three}
 use native.Mathlib.Omega.{arith}
 use lib.ListN.{length-set}
-use borrow.Author.Rules.{rules}
 use Rattle.rows.proofs.put_row.Goals as goal
 
 pub bounds-rows-at-2 : goal.bounds-rows-at-2

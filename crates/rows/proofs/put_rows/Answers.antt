@@ -1,11 +1,8 @@
-use borrow.Author.Rules.{rules}
 use native.Mathlib.Omega.{arith}
-use Prim.Native.Nat.{◌-◌, ◌*◌}
+use Prim.Native.Nat.{◌*◌}
 use mathlib.Core.Path.{refl, ap, ◌∙◌}
 use lib.Seq.{sets}
-use Rattle.reader.specs.Reading.{schema_of}
-use Rattle.sizes.specs.Check.{brought}
-use Rattle.rows.proofs.Table.{Rowed, no_row, next_row, all_rows}
+use Rattle.rows.proofs.Table.{no_row, next_row, all_rows}
 use Rattle.rows.proofs.put_rows.Goals as goal
 
 pub loop-i-init : goal.loop-i-init

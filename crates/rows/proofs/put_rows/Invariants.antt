@@ -1,11 +1,7 @@
-use borrow.Author.Rules.{rules}
-use native.Mathlib.Omega.{arith}
-use Prim.Native.Nat.{◌-◌, ◌*◌}
-use mathlib.Core.Path.{refl, ap, ◌∙◌}
-use lib.Seq.{sets}
+use Prim.Native.Nat.{◌-◌}
 use Rattle.reader.specs.Reading.{schema_of}
 use Rattle.sizes.specs.Check.{brought}
-use Rattle.rows.proofs.Table.{Rowed, no_row, next_row, all_rows}
+use Rattle.rows.proofs.Table.{Rowed}
 use Rattle.rows.proofs.put_rows.Given as goal
 
 abbrev pub invariant-loop-i : goal.invariant-loop-i

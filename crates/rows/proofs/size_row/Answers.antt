@@ -2,7 +2,6 @@ use mathlib.Core.Path.{sym, ap}
 use mathlib.Core.Option.{some}
 use Rattle.sizes.specs.Check.{size_row}
 use Rattle.sizes.specs.declared.Size.{Size}
-use borrow.Author.Rules.{rules}
 use Rattle.rows.proofs.size_row.Goals as goal
 
 pub returns-in-Fixed : goal.returns-in-Fixed

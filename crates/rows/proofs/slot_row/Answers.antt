@@ -1,6 +1,5 @@
 use mathlib.Core.Path.{sym, ◌∙◌}
 use Rattle.rows.proofs.Slots.{row_message, row_union, row_enum, row_flags, row_blank, row_missing}
-use borrow.Author.Rules.{rules}
 use Rattle.rows.proofs.slot_row.Goals as goal
 
 pub returns-in-1 : goal.returns-in-1

@@ -1,6 +1,5 @@
 use mathlib.Core.Path.{◌∙◌}
 use Rattle.rows.proofs.Slots.{stored_fixed, stored_from, stored_bounded, stored_none}
-use borrow.Author.Rules.{rules}
 use Rattle.rows.proofs.stored_row.Goals as goal
 
 pub returns-in-1 : goal.returns-in-1

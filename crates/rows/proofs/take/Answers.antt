@@ -1,6 +1,5 @@
 use mathlib.Core.Path.{sym, ◌∙◌}
 use Rattle.rows.proofs.Taking.{taken, not_taken}
-use borrow.Author.Rules.{rules}
 use Rattle.rows.proofs.take.Goals as goal
 
 pub returns-in-Value : goal.returns-in-Value

@@ -1,4 +1,3 @@
-use borrow.Author.Rules.{rules}
 use Rattle.settling.proofs.close_one.Goals as goal
 
 pub returns-in-6 : goal.returns-in-6

@@ -1,7 +1,6 @@
 use Rattle.settling.proofs.Ended.{at_end, not_stopped}
 use Rattle.slot.proofs.Whole.{field_parts_lem}
 use Rattle.settling.proofs.Encodings.{code_at}
-use borrow.Author.Rules.{rules}
 use Rattle.settling.proofs.field_type.Goals as goal
 
 pub returns-in-At : goal.returns-in-At

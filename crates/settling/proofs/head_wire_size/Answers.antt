@@ -1,7 +1,6 @@
 use mathlib.Core.Path.{refl, ◌∙◌}
 use Rattle.measures.proofs.ByKind.{leaf_as}
 use Rattle.settling.proofs.Typing.{decided_leaf, decided_pass, decided_name, decided_one, decided_sides, leaf_sized, run_sized, set_sized, map_sized, generic_sized, pair_map}
-use borrow.Author.Rules.{rules}
 use Rattle.settling.proofs.head_wire_size.Goals as goal
 
 pub returns-in-3 : goal.returns-in-3

@@ -1,7 +1,6 @@
 use mathlib.Core.Path.{refl, ◌∙◌}
 use Rattle.sizes.specs.Sizes.{then}
 use Rattle.settling.proofs.Ended.{not_over}
-use borrow.Author.Rules.{rules}
 use Rattle.settling.proofs.join_sides.Goals as goal
 
 pub returns-in-Sized : goal.returns-in-Sized

@@ -1,6 +1,5 @@
 use Rattle.number.proofs.Reading.{told}
 use Rattle.settling.proofs.Elements.{limit_read_lem, limit_refused, limit_nowhere}
-use borrow.Author.Rules.{rules}
 use Rattle.settling.proofs.limit_behind.Goals as goal
 
 pub returns-in-Value : goal.returns-in-Value

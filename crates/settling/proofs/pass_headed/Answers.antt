@@ -1,6 +1,5 @@
 use mathlib.Core.Path.{refl, sym, ◌∙◌}
 use Rattle.settling.proofs.Heads.{type_parts_lem}
-use borrow.Author.Rules.{rules}
 use Rattle.settling.proofs.pass_headed.Goals as goal
 
 pub returns-in-Leaf : goal.returns-in-Leaf

@@ -1,7 +1,6 @@
 use Rattle.settling.specs.Steps.{frame_of}
 use Rattle.number.specs.Answers.{follow}
 use Rattle.settling.proofs.Settling.{limit_to}
-use borrow.Author.Rules.{rules}
 use mathlib.Core.Path.{refl, ap, ◌∙◌}
 use Rattle.view.specs.Take.{place_of}
 use Rattle.settling.proofs.pass_limit.Goals as goal

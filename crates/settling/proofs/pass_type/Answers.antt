@@ -1,6 +1,5 @@
 use mathlib.Core.Path.{refl}
 use Rattle.settling.proofs.Ended.{at_end, not_stopped}
-use borrow.Author.Rules.{rules}
 use Rattle.settling.proofs.pass_type.Goals as goal
 
 pub returns-in-At : goal.returns-in-At

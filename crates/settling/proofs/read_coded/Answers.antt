@@ -1,12 +1,7 @@
-use borrow.Author.Rules.{rules}
-use native.Mathlib.Omega.{arith}
-use Prim.Native.Nat.{ℕ}
-use mathlib.Core.Path.{◌≡◌, refl, sym, ◌∙◌}
-use Rattle.number.specs.Grammar.{done, read}
+use mathlib.Core.Path.{refl, sym, ◌∙◌}
 use Rattle.number.proofs.Reading.{told}
-use Rattle.tree.specs.Encoding.{Encoding, encoding_at}
 use Rattle.settling.proofs.Ended.{not_refused}
-use Rattle.settling.proofs.Encodings.{Inner, is_plain, is_varint, is_zigzag, is_delta, encoding_read_lem, not_too_deep}
+use Rattle.settling.proofs.Encodings.{is_plain, is_varint, is_zigzag, is_delta, encoding_read_lem, not_too_deep}
 use Rattle.settling.proofs.read_coded.Goals as goal
 
 pub loop-levels-init : goal.loop-levels-init

@@ -1,12 +1,8 @@
-use borrow.Author.Rules.{rules}
-use native.Mathlib.Omega.{arith}
 use Prim.Native.Nat.{ℕ}
-use mathlib.Core.Path.{◌≡◌, refl, sym, ◌∙◌}
+use mathlib.Core.Path.{◌≡◌}
 use Rattle.number.specs.Grammar.{done, read}
-use Rattle.number.proofs.Reading.{told}
 use Rattle.tree.specs.Encoding.{Encoding, encoding_at}
-use Rattle.settling.proofs.Ended.{not_refused}
-use Rattle.settling.proofs.Encodings.{Inner, is_plain, is_varint, is_zigzag, is_delta, encoding_read_lem, not_too_deep}
+use Rattle.settling.proofs.Encodings.{Inner}
 use Rattle.settling.proofs.read_coded.Given as goal
 
 abbrev pub invariant-loop-levels : goal.invariant-loop-levels

@@ -1,7 +1,6 @@
 use Rattle.settling.specs.Steps.{frame_of}
 use mathlib.Core.Path.{sym, ap, ◌∙◌}
 use native.Mathlib.Omega.{arith}
-use borrow.Author.Rules.{rules}
 use Rattle.number.specs.Answers.{follow}
 use Rattle.view.specs.Take.{place_of}
 use Rattle.slot.proofs.FourBytes.{short_bytes}

@@ -1,5 +1,4 @@
 use Rattle.settling.proofs.Elements.{plain_open, plain_limited}
-use borrow.Author.Rules.{rules}
 use Rattle.settling.proofs.settle_elements.Goals as goal
 
 pub returns-then-limit-eq0 : goal.returns-then-limit-eq0

@@ -1,7 +1,6 @@
 use mathlib.Core.Logic.{inl, inr}
 use Rattle.number.proofs.Reading.{told}
 use Rattle.settling.proofs.Elements.{plain_none, plain_other}
-use borrow.Author.Rules.{rules}
 use Rattle.settling.proofs.settle_limited.Goals as goal
 
 pub returns-in_default : goal.returns-in_default

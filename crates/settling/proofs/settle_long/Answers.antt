@@ -1,5 +1,4 @@
 use Rattle.settling.specs.Steps.{frame_of}
-use borrow.Author.Rules.{rules}
 use Rattle.settling.proofs.Settling.{at_type, by_varint, by_zigzag}
 use Rattle.settling.proofs.settle_long.Goals as goal
 

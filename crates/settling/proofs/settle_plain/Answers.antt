@@ -1,7 +1,6 @@
 use mathlib.Core.Path.{refl}
 use Rattle.settling.specs.Steps.{frame_of}
 use Rattle.settling.proofs.Elements.{plain_one}
-use borrow.Author.Rules.{rules}
 use Rattle.settling.proofs.settle_plain.Goals as goal
 
 pub returns-in-One : goal.returns-in-One

@@ -1,5 +1,4 @@
 use mathlib.Core.Path.{sym, subst}
-use borrow.Author.Rules.{rules}
 use Rattle.settling.specs.Steps.{Settles}
 use Rattle.settling.specs.declared.Settled.{Settled}
 use Rattle.settling.proofs.Settling.{short_leaf_lem, short_varint, short_zigzag, short_name}

@@ -4,7 +4,6 @@ use Rattle.sizes.specs.Sizes.{wrap_size}
 use Rattle.measures.proofs.ByKind.{wrap_at}
 use Rattle.settling.proofs.Ended.{not_over}
 use Rattle.settling.proofs.Heads.{wrap_over}
-use borrow.Author.Rules.{rules}
 use Rattle.settling.proofs.wrap_child.Goals as goal
 
 pub returns-in-Sized : goal.returns-in-Sized

@@ -3,7 +3,6 @@ use Rattle.sizes.specs.declared.Size.TheVariants.{Bounded}
 use Rattle.sizes.specs.declared.Worked.TheVariants.{Sized}
 use Rattle.measures.proofs.ByKind.{zigzag_as}
 use Rattle.settling.proofs.Heads.{type_kind}
-use borrow.Author.Rules.{rules}
 use Rattle.settling.proofs.zigzag_type.Goals as goal
 
 pub returns : goal.returns

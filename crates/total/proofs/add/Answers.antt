@@ -1,6 +1,5 @@
 use mathlib.Core.Path.{◌∙◌}
 use Rattle.sizes.specs.Sizes.{then}
-use borrow.Author.Rules.{rules}
 use Rattle.total.proofs.add.Goals as goal
 
 pub returns-in-Sized : goal.returns-in-Sized

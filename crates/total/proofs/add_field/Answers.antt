@@ -1,7 +1,6 @@
 use mathlib.Core.Path.{sym, ap, ◌∙◌}
 use Rattle.total.specs.Totals.{total_after, step_of}
 use Rattle.total.proofs.Totals.{summed}
-use borrow.Author.Rules.{rules}
 use Rattle.total.proofs.add_field.Goals as goal
 
 pub returns-in-Sized : goal.returns-in-Sized

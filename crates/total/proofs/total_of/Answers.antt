@@ -1,6 +1,5 @@
 use mathlib.Core.Path.{sym, ap}
 use Rattle.total.specs.Totals.{total_of}
-use borrow.Author.Rules.{rules}
 use Rattle.total.proofs.total_of.Goals as goal
 
 pub returns-in-Fixed : goal.returns-in-Fixed

@@ -1,6 +1,5 @@
 use Rattle.total.specs.Totals.{size_of}
 use Rattle.total.proofs.Totals.{open_rest}
-use borrow.Author.Rules.{rules}
 use Rattle.total.proofs.total_size.Goals as goal
 
 pub returns-in-0 : goal.returns-in-0

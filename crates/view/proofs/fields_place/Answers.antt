@@ -5,7 +5,6 @@ use Rattle.number.specs.declared.Next.{Next}
 use Rattle.slot.specs.Field.{stored_at}
 use Rattle.view.specs.Take.{place_of}
 use Rattle.view.specs.Inside.{fields_place}
-use borrow.Author.Rules.{rules}
 use Rattle.view.proofs.fields_place.Goals as goal
 
 pub returns : goal.returns

@@ -2,7 +2,6 @@ use mathlib.Core.Path.{sym, ap}
 use Rattle.number.proofs.Reading.{told}
 use Rattle.view.specs.Take.{taken_of}
 use Rattle.view.specs.Inside.{name_count}
-use borrow.Author.Rules.{rules}
 use Rattle.view.proofs.name_count.Goals as goal
 
 pub returns-in-Value : goal.returns-in-Value

@@ -1,6 +1,5 @@
 use mathlib.Core.Path.{sym, ◌∙◌}
 use Rattle.view.proofs.Insides.{none_inside, fields_at_lem, variants_at, terminal_at, target_at, body_itself}
-use borrow.Author.Rules.{rules}
 use Rattle.view.proofs.read_inside.Goals as goal
 
 pub returns-in_default : goal.returns-in_default

@@ -1,6 +1,5 @@
 use Rattle.number.proofs.Reading.{told}
 use Rattle.view.proofs.Fetching.{past, fetched, no_kind}
-use borrow.Author.Rules.{rules}
 use Rattle.view.proofs.read_part.Goals as goal
 
 pub returns-then-starts-k : goal.returns-then-starts-k

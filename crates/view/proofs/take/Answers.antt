@@ -3,7 +3,6 @@ use native.Mathlib.Omega.{arith}
 use Rattle.number.proofs.Reading.{told}
 use Rattle.number.proofs.InRange.{below_is}
 use Rattle.view.specs.Take.{taken_of}
-use borrow.Author.Rules.{rules}
 use Rattle.view.proofs.take.Goals as goal
 
 pub overflow_cast-result : goal.overflow_cast-result

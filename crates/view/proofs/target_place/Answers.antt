@@ -3,7 +3,6 @@ use Rattle.number.specs.Grammar.{name}
 use Rattle.number.specs.Answers.{follow}
 use Rattle.view.specs.Take.{place_of}
 use Rattle.view.specs.Inside.{target_place}
-use borrow.Author.Rules.{rules}
 use Rattle.view.proofs.target_place.Goals as goal
 
 pub returns : goal.returns

@@ -1,7 +1,6 @@
 use mathlib.Core.Path.{ap, ◌∙◌}
 use Rattle.view.specs.Take.{place_of}
 use Rattle.view.specs.Inside.{terminal_place}
-use borrow.Author.Rules.{rules}
 use Rattle.view.proofs.terminal_place.Goals as goal
 
 pub returns : goal.returns

@@ -2,7 +2,6 @@ use mathlib.Core.Path.{ap, ◌∙◌}
 use Rattle.number.specs.Answers.{follow}
 use Rattle.view.specs.Take.{place_of}
 use Rattle.view.specs.Inside.{variants_place}
-use borrow.Author.Rules.{rules}
 use Rattle.view.proofs.variants_place.Goals as goal
 
 pub returns : goal.returns

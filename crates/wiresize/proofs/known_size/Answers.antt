@@ -2,7 +2,6 @@ use mathlib.Core.Path.{ap}
 use Rattle.wiresize.specs.Rows.{row_by}
 use Rattle.wiresize.specs.declared.Row.{Row}
 use Rattle.wiresize.proofs.Tables.{row_rest}
-use borrow.Author.Rules.{rules}
 use Rattle.wiresize.proofs.known_size.Goals as goal
 
 pub returns-in-1 : goal.returns-in-1

@@ -1,4 +1,3 @@
-use borrow.Author.Rules.{rules}
 use Rattle.wiresize.proofs.turn_from.Goals as goal
 
 pub returns-in-Sized : goal.returns-in-Sized
