@@ -1,6 +1,6 @@
 /* How large must a buffer be that holds every report? Checks a schema image and answers for one slot.
  *
- *     rt staticlib vexil
+ *     ./build library
  *     cc -std=c11 -Iinclude examples/check.c target/staticlib/libvexil.a -o target/check
  *     target/check examples/bond-report.image 2
  *

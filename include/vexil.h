@@ -1,4 +1,4 @@
-/* The check of Vexil schema images, for C11 and C++17. `rt staticlib vexil` writes the library, target/staticlib/libvexil.a, for
+/* The check of Vexil schema images, for C11 and C++17. `./build library` writes the library, target/staticlib/libvexil.a, for
  * x86-64 Linux. docs/FORMAT.md describes images, refusals and both tables; examples/check.c is a program to start from.
  *
  * Every argument is answered: the functions test the image and the lengths themselves. What they cannot test, the caller sees to:

@@ -1,5 +1,5 @@
 -- What each step of the check may rely on, and which findings it adds to the table.
-use Rattle.std.specs.Prelude.{ℕ, ◌≤◌, ◌<◌, ◌^◌, ◌≡◌, List, length}
+use Rattle.std.specs.Prelude.{ℕ, ◌≤◌, ◌<◌, ◌^◌, ◌≡◌, List}
 use Rattle.number.specs.Grammar.{done, read}
 use Rattle.slot.specs.Field.{fields_at}
 use Rattle.slot.specs.Slot.{Message, Trait, Impl}

@@ -1,7 +1,7 @@
 -- The table of answers: a row is read back as the answer that was written, and no other row changes. Assumes nothing.
 use Prim.Native.Nat.{ℕ, zero, suc, ◌+◌, ◌*◌, ◌≤◌, ◌<◌}
 use mathlib.Core.Path.{◌≡◌, refl, sym, ap, ◌∙◌}
-use mathlib.Core.List.{List, [], ◌∷◌}
+use mathlib.Core.List.{List}
 use native.Mathlib.Omega.{arith}
 use lib.ListN.{length, get_or, set, length-set}
 use lib.Seq.{sets, length-sets, get_or-set_same, get_or-set_other}
@@ -9,7 +9,7 @@ use Rattle.sizes.specs.declared.Size.TheVariants.{Fixed, Bounded, Open}
 use Rattle.sizes.specs.declared.Operation.TheVariants.{Sum, Product}
 use Rattle.sizes.specs.declared.Worked.{Worked}
 use Rattle.sizes.specs.declared.Worked.TheVariants.{Sized, Over}
-use Rattle.sizes.specs.Check.{row, size_row}
+use Rattle.sizes.specs.Check.{row}
 use Rattle.level.specs.Level.{answer_row, answer_by, answer_at, Unknown}
 
 pub answer_rest : (k a b : ℕ) → (k ≡ 1 → ⊥) → (k ≡ 2 → ⊥) → (k ≡ 3 → ⊥) → (k ≡ 4 → ⊥) → (k ≡ 5 → ⊥) → Sized (Open 0) ≡ answer_by k a b

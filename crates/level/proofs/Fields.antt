@@ -7,7 +7,7 @@ use Rattle.sizes.specs.declared.Size.{Size}
 use Rattle.sizes.specs.declared.Worked.{Worked}
 use Rattle.sizes.specs.declared.Worked.TheVariants.{Sized}
 use Rattle.sizes.specs.Elements.{Element, item, entry}
-use Rattle.sizes.specs.Sizes.{largest, then, up_to}
+use Rattle.sizes.specs.Sizes.{then}
 use Rattle.sizes.specs.Steps.{then_made}
 use Rattle.sizes.specs.Nodes.{type_nodes, element_nodes}
 

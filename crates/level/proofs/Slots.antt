@@ -15,14 +15,13 @@ use Rattle.sizes.specs.declared.Size.TheVariants.{Open}
 use Rattle.sizes.specs.declared.Worked.{Worked}
 use Rattle.sizes.specs.declared.Worked.TheVariants.{Sized, Over}
 use Rattle.sizes.specs.Sizes.{Resolver, type_size, fields_size, union_size}
-use Rattle.sizes.specs.Names.{content_in, content_of, content_size, or_else}
+use Rattle.sizes.specs.Names.{content_in, content_of, content_size}
 use Rattle.sizes.specs.Check.{slot_row}
 use Rattle.sizes.specs.Nodes.{type_nodes, fields_nodes, variants_nodes, content_nodes}
 use Rattle.wiresize.specs.Rows.{row_at}
 use Rattle.wiresize.specs.Asked.{Held}
 use Rattle.wiresize.specs.declared.Row.{Row}
 use Rattle.wiresize.proofs.Naming.{row_in, stored_few, row_of, row_known, row_other}
-use Rattle.level.specs.declared.Filled.{Filled}
 use Rattle.level.specs.Level.{visits_by, answer_in, Answers}
 
 -- nodes that are met where there is a size

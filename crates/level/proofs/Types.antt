@@ -4,10 +4,10 @@ use mathlib.Core.Path.{◌≡◌, refl, sym, ap, ◌∙◌}
 use mathlib.Core.List.{List}
 use native.Mathlib.Omega.{arith}
 use lib.ListN.{length}
-use Rattle.number.specs.Grammar.{done, below, read}
+use Rattle.number.specs.Grammar.{done, read}
 use Rattle.number.proofs.Reading.{then_done}
 use Rattle.number.proofs.InRange.{below_is}
-use Rattle.tree.specs.Tree.{Tree, Leaf, Wrap, Pair, leaf, wrap, fixed_array, pair, generic, named, map_of, result_of, wrap_kind, optional, array, set_of, vec2, vec3, vec4, quat, mat3, mat4}
+use Rattle.tree.specs.Tree.{Tree, Leaf, Wrap, leaf, wrap, fixed_array, pair, named, map_of, result_of, wrap_kind, optional, array, set_of, vec2, vec3, vec4, quat, mat3, mat4}
 use Rattle.tree.specs.TreeAt.{head_at, shape}
 use Rattle.tree.specs.declared.Sort.TheVariants.{Resolved}
 use Rattle.tree.specs.declared.Head.{Head}
@@ -15,7 +15,6 @@ use Rattle.slot.specs.Field.{type_at}
 use Rattle.sizes.specs.declared.Size.{Size}
 use Rattle.sizes.specs.declared.Operation.{Operation}
 use Rattle.sizes.specs.declared.Operation.TheVariants.{Sum}
-use Rattle.sizes.specs.declared.Worked.{Worked}
 use Rattle.sizes.specs.declared.Worked.TheVariants.{Sized, Over}
 use Rattle.sizes.specs.Elements.{Count, at_most_one, any_number, exactly, count_of}
 use Rattle.sizes.specs.Sizes.{Resolver, then, leaf_size, wrap_size, type_size}

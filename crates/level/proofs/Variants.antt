@@ -1,10 +1,10 @@
 -- Fields and variants by the code's turns: the nodes that were met. Assumes nothing.
 use Prim.Native.Nat.{ℕ, ◌+◌, ◌-◌, ◌≤◌, ◌<◌}
-use mathlib.Core.Path.{◌≡◌, refl, sym, ap, subst, ◌∙◌}
+use mathlib.Core.Path.{◌≡◌, refl, sym, ap, ◌∙◌}
 use mathlib.Core.List.{List, [], ◌∷◌}
 use native.Mathlib.Omega.{arith}
 use lib.ListN.{length}
-use Rattle.number.specs.Grammar.{Grammar, many, done, below, read}
+use Rattle.number.specs.Grammar.{many, done, below, read}
 use Rattle.number.proofs.Reading.{Front}
 use Rattle.number.proofs.InRange.{below_is}
 use Rattle.slot.specs.Field.{Field, field_at, fields_at}
@@ -23,10 +23,9 @@ use Rattle.total.specs.declared.Step.{Step}
 use Rattle.total.proofs.Totals.{stepped}
 use Rattle.view.proofs.Onward.{goes_on}
 use Rattle.view.proofs.Places.{at_place}
-use Rattle.settling.specs.declared.Walked.{Walked}
 use Rattle.settling.proofs.Nodes.{field_nodes_lem}
 use Rattle.wiresize.specs.Asked.{Walks}
-use Rattle.wiresize.proofs.Fields.{none_left, same_thing, FieldsLeft, next_field, field_turn, field_over, fields_end_lem}
+use Rattle.wiresize.proofs.Fields.{none_left, same_thing, FieldsLeft, next_field, field_turn, fields_end_lem}
 use Rattle.wiresize.proofs.Variants.{VariantsLeft, variants_start, next_variant, variant_fields, variant_start, variant_turn, variant_over, variants_end}
 use Rattle.level.specs.declared.Leveled.{Leveled}
 use Rattle.level.specs.declared.Tallied.{Tallied}

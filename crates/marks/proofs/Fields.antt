@@ -1,17 +1,16 @@
 -- Marks of a type and of a field, by its encoding, its limit and the kind of its type. Assumes nothing.
-use Prim.Native.Nat.{ℕ, zero, suc, ◌+◌, ◌<◌, ◌≤◌}
-use mathlib.Core.Path.{◌≡◌, refl, sym, ap, subst, ◌∙◌}
-use mathlib.Core.List.{List, [], ◌∷◌, ◌++◌}
+use Prim.Native.Nat.{ℕ, zero, suc, ◌+◌, ◌<◌}
+use mathlib.Core.Path.{◌≡◌, refl, sym, ap, ◌∙◌}
+use mathlib.Core.List.{List, []}
 use mathlib.Core.Bool.{Bool, true, false, cond, false≢true}
-use mathlib.Core.Option.{Option, none, some, none-ne-some}
+use mathlib.Core.Option.{none, some, none-ne-some}
 use native.Mathlib.Omega.{arith}
 use lib.ListN.{get_or}
 use Rattle.number.specs.Grammar.{done, refused, below, read}
 use Rattle.number.specs.Answers.{next, follow}
 use Rattle.number.specs.declared.Next.{Next}
-use Rattle.number.proofs.Reading.{then_done, given, follow_on}
-use Rattle.tree.specs.Tree.{Tree, Leaf, leaf, wrap, fixed_array, pair, generic, named, map_of, result_of}
-use Rattle.tree.specs.TreeAt.{shape}
+use Rattle.number.proofs.Reading.{then_done, given}
+use Rattle.tree.specs.Tree.{Tree, leaf, wrap, fixed_array, pair, generic, map_of, result_of}
 use Rattle.tree.specs.Short.{short_leaf}
 use Rattle.tree.specs.Encoding.{Encoding, default, varint, zig_zag, delta}
 use Rattle.tree.specs.declared.Sort.TheVariants.{Resolved}
@@ -29,10 +28,10 @@ use Rattle.loops.specs.Marks.{Led, TreeMarked}
 use Rattle.loops.proofs.Marking.{led_none, led_one, led_as, led_more}
 use Rattle.view.specs.Take.{place_of}
 use Rattle.view.proofs.Places.{at_place}
-use Rattle.sizes.specs.Elements.{Count, at_most_one, any_number, exactly, count_of, Element, item, entry, wrap_element, element_of, is_plain, with_limit, limited_element}
+use Rattle.sizes.specs.Elements.{Count, at_most_one, any_number, exactly, count_of, Element, wrap_element, element_of, is_plain, with_limit, limited_element}
 use Rattle.sizes.specs.Lengths.{leaf_parts, wrap_parts, type_parts, encoded_parts, element_parts, own_parts, field_parts}
 use Rattle.sizes.specs.Limits.{by_type, by_limit, by_encoding, by_all}
-use Rattle.settling.specs.Steps.{coded_as, Codes, LimitBehind, Holds, plain_at}
+use Rattle.settling.specs.Steps.{Codes, LimitBehind, Holds, plain_at}
 use Rattle.settling.specs.declared.Coded.{Coded}
 use Rattle.settling.proofs.Elements.{no_element_lem, first_of, run_of, PlainParts, plain_parts, plain_reads}
 use Rattle.settling.proofs.Heads.{type_parts_lem}

@@ -1,5 +1,5 @@
 -- What the walk over rows of bits says of a schema. Assumes nothing.
-use Prim.Native.Nat.{ℕ, ◌+◌, ◌<◌, ◌≤◌}
+use Prim.Native.Nat.{ℕ, ◌<◌}
 use native.Mathlib.Omega.{arith}
 use native.Mathlib.Decide.{dec_lt}
 use mathlib.Core.Path.{◌≡◌, refl, sym, ap, ◌∙◌}
@@ -7,17 +7,17 @@ use mathlib.Core.List.{List, [], ◌∷◌}
 use mathlib.Core.Logic.{◌⊎◌, inl, inr, ⊎_elim, by_cases}
 use mathlib.Core.Bool.{Bool, true, false, ◌&&◌, ◌||◌, or-true}
 use borrow.Author.Tests.{eq-eqb, eqb-true}
-use lib.ListN.{length, get_or, get_or-eq_default}
+use lib.ListN.{get_or, get_or-eq_default}
 use lib.Dec.{eqb}
 use Rattle.graph.specs.declared.Lowest.{Lowest}
-use Rattle.graph.specs.Ways.{Leads, via, lowest, has}
+use Rattle.graph.specs.Ways.{Leads, via, has}
 use Rattle.graph.specs.Loops.{via_same, lowest_same, not_both}
 use Rattle.graph.specs.Table.{grid}
-use Rattle.reach.specs.Order.{inside, In, Arranged, BackFrom}
+use Rattle.reach.specs.Order.{inside, Arranged, BackFrom}
 use Rattle.reach.specs.Back.{any_below, is_from, leading_back as back_in}
 use Rattle.reach.proofs.Ordered.{both, either, any_at, any_some, from_same, back_same, in_order, order_reached, none_back, some_back}
 use Rattle.reach.proofs.Walking.{inside_is, inside_low}
-use Rattle.slot.specs.Slot.{Slot, empty}
+use Rattle.slot.specs.Slot.{empty}
 use Rattle.image.specs.Schema.{Schema, slot_of}
 use Rattle.sizes.specs.Reached.{is_sizable, slot_count, part_leads, reached_from, is_reached, leading_back}
 use Rattle.marks.specs.Marks.{is_start, Sorted}

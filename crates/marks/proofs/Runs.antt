@@ -1,12 +1,12 @@
 -- Marks of one thing after another, of a slot, and of all slots. Assumes nothing.
-use Prim.Native.Nat.{ℕ, suc, ◌+◌, ◌*◌, ◌-◌, ◌<◌, ◌≤◌}
+use Prim.Native.Nat.{ℕ, suc, ◌+◌, ◌-◌, ◌<◌, ◌≤◌}
 use mathlib.Core.Path.{◌≡◌, refl, sym, ap, ◌∙◌}
 use mathlib.Core.List.{List, [], ◌∷◌, ◌++◌, append_assoc, append-nil}
 use native.Mathlib.Omega.{arith}
 use Rattle.number.specs.Grammar.{Grammar, many, counted, done, refused, below, read}
 use Rattle.number.proofs.Reading.{given, not_done, front, counted_on, counted_refused}
 use Rattle.slot.specs.Field.{type_at, Field, fields_at}
-use Rattle.slot.specs.Slot.{Slot, empty, message, enum, flags, union, newtype, config, alias, trait, impl, slot_kind, Message, message_at, Union, union_at, Newtype, newtype_at, slot_body_at}
+use Rattle.slot.specs.Slot.{Slot, empty, message, enum, flags, union, newtype, config, alias, trait, impl, slot_kind, message_at, union_at, newtype_at, slot_body_at}
 use Rattle.slot.specs.declared.Edition.{Edition}
 use Rattle.slot.proofs.Whole.{made_of}
 use Rattle.graph.specs.Ways.{has}

@@ -1,9 +1,9 @@
 -- The declared messages and unions, one declaration after another. Assumes nothing.
-use Prim.Native.Nat.{ℕ, suc, ◌+◌, ◌-◌, ◌^◌, ◌<◌, ◌≤◌}
-use mathlib.Core.Path.{◌≡◌, refl, sym, ap, subst, ◌∙◌}
+use Prim.Native.Nat.{ℕ, suc, ◌-◌, ◌^◌, ◌<◌, ◌≤◌}
+use mathlib.Core.Path.{◌≡◌, refl, sym, ap, ◌∙◌}
 use mathlib.Core.List.{List, [], ◌∷◌, ◌++◌, append_assoc, append-nil}
 use mathlib.Core.Logic.{◌⊎◌, ⊎_elim, by_cases}
-use mathlib.Core.Bool.{Bool, true, false, ◌&&◌, ◌||◌, or-false, or-true, and-false, and-or_distrib_right}
+use mathlib.Core.Bool.{Bool, true, false, ◌&&◌, or-false, or-true, and-false, and-or_distrib_right}
 use native.Mathlib.Omega.{arith}
 use native.Mathlib.Decide.{ℕ_discrete}
 use borrow.Author.Tests.{eq-eqb, ne_eqb}
@@ -24,7 +24,7 @@ use Rattle.view.proofs.Fetching.{Behind}
 use Rattle.reader.specs.Reading.{schema_of}
 use Rattle.reader.specs.Promise.{Promise}
 use Rattle.sizes.specs.Reached.{is_sizable}
-use Rattle.marks.specs.Marks.{is_start, Begun, Started}
+use Rattle.marks.specs.Marks.{Begun, Started}
 
 -- ## The kinds
 

@@ -1,14 +1,12 @@
 -- Slots worked out in their order: each by the answers of its parts, which stand before it. Assumes nothing.
-use Prim.Native.Nat.{ℕ, zero, suc, ◌+◌, ◌*◌, ◌≤◌, ◌<◌}
+use Prim.Native.Nat.{ℕ, ◌+◌, ◌*◌, ◌≤◌, ◌<◌}
 use mathlib.Core.Path.{◌≡◌, refl, sym, ap, subst, ◌∙◌}
-use mathlib.Core.List.{List, Memᴰ}
-use mathlib.Core.Bool.{Bool, true, false, cond}
+use mathlib.Core.List.{List}
 use mathlib.Core.Logic.{by_cases}
 use native.Mathlib.Omega.{arith}
 use native.Mathlib.Decide.{ℕ_discrete, dec_lt}
 use native.Mathlib.Numerals.{add-one}
 use lib.ListN.{length, get_or}
-use lib.Seq.{sets}
 use borrow.Author.Tests.{lt-ltb, le-ltb}
 use Rattle.reach.specs.Order.{In}
 use Rattle.image.specs.Schema.{Schema}
@@ -24,7 +22,7 @@ use Rattle.sizes.specs.Steady.{plain_size}
 use Rattle.sizes.specs.Reached.{slot_count, is_reached, visits_of}
 use Rattle.sizes.proofs.OneVisit.{has_of_member, reached_free, worked_right, past_open}
 use Rattle.sizes.proofs.Sums.{sum_first, order_sum}
-use Rattle.level.specs.Level.{answer_row, answer_at, names_in, Unknown, visits_by, answer_in, SlotWorked}
+use Rattle.level.specs.Level.{answer_at, names_in, Unknown, visits_by, answer_in, SlotWorked}
 use Rattle.marks.specs.Marks.{Sorted}
 use Rattle.once.specs.Once.{AllWorked}
 use Rattle.level.proofs.Answers.{answer_same, answer_other, unknown_other}

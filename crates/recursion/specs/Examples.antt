@@ -1,6 +1,6 @@
 -- Worked examples of class 1, as one table: the slots of a schema whose declarations are all its slots, and how many
 -- findings each declaration has.
-use Rattle.std.specs.Prelude.{ℕ, ◌≡◌, refl, List, [], ◌∷◌, map, length}
+use Rattle.std.specs.Prelude.{ℕ, ◌≡◌, refl, List, [], ◌∷◌, map}
 use Rattle.tree.specs.Tree.{Tree, leaf, wrap, named, primitive, optional}
 use Rattle.tree.specs.Encoding.{default}
 use Rattle.slot.specs.Field.{Field, none}

@@ -1,6 +1,6 @@
 -- Refusal 15: exactly where the image passes 1 to 9 and a slot brings a size. Assumes nothing.
 use Prim.Native.Nat.{ℕ, ◌≤◌, ◌<◌, ◌*◌}
-use mathlib.Core.Path.{◌≡◌, refl, sym, ap, subst, ◌∙◌}
+use mathlib.Core.Path.{◌≡◌, refl, sym, ap, ◌∙◌}
 use mathlib.Core.List.{List}
 use mathlib.Core.Bool.{Bool, true, false, cond}
 use mathlib.Core.Option.{Option, none, some, none-ne-some}
@@ -29,7 +29,6 @@ use Rattle.reader.proofs.Telling.{exactly}
 use Rattle.sizes.specs.declared.Layout.{Layout}
 use Rattle.sizes.specs.declared.Size.{Size}
 use Rattle.sizes.specs.declared.Operation.TheVariants.{Sum, Product}
-use Rattle.sizes.specs.Sizes.{refusal_of}
 use Rattle.sizes.specs.Check.{Checked, is_there, brought, brought_in, stored_slot, check_sizes}
 use Rattle.sizes.specs.Check as check
 use Rattle.sizes.specs.Demand.{BringsNone}

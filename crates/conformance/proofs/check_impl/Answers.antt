@@ -1,7 +1,6 @@
 use native.Mathlib.Omega.{arith}
 use mathlib.Core.Path.{sym, ◌∙◌}
 use Rattle.conformance.proofs.Slots.{none_named, past_slots, no_part, not_a_trait, paired, single}
-use borrow.Author.Rules.{rules}
 use Rattle.conformance.proofs.check_impl.Goals as goal
 
 pub returns-then-trait_id-eq0 : goal.returns-then-trait_id-eq0

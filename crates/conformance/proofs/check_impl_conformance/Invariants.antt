@@ -1,8 +1,6 @@
-use native.Mathlib.Omega.{arith}
 use Prim.Native.Nat.{◌-◌}
 use Rattle.reader.specs.Reading.{schema_of}
-use Rattle.findings.proofs.Adding.{adds_kept}
-use Rattle.conformance.proofs.Slots.{Passed, none_passed, one_passed, all_passed}
+use Rattle.conformance.proofs.Slots.{Passed}
 use Rattle.conformance.proofs.check_impl_conformance.Given as goal
 
 abbrev pub invariant-loop-i : goal.invariant-loop-i

@@ -1,12 +1,10 @@
 use borrow.Author.Rules.{rules}
 use native.Mathlib.Omega.{arith}
-use Prim.Native.Nat.{ℕ, ◌-◌}
-use mathlib.Core.Path.{◌≡◌}
-use lib.ListN.{length, length-replicate}
+use Prim.Native.Nat.{ℕ}
+use lib.ListN.{length-replicate}
 use Rattle.findings.proofs.Adding.{adds_kept}
 use Rattle.view.proofs.Taking.{takes}
-use Rattle.conformance.specs.Adding.{Targeted}
-use Rattle.conformance.proofs.Required.{finds_hold, Going, at_start, at_end, sought, going_on}
+use Rattle.conformance.proofs.Required.{finds_hold, at_start, at_end, sought, going_on}
 use Rattle.conformance.proofs.check_required_fields.Goals as goal
 
 pub loop-k-init : goal.loop-k-init

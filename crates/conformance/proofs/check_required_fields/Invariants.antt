@@ -1,12 +1,8 @@
-use borrow.Author.Rules.{rules}
-use native.Mathlib.Omega.{arith}
-use Prim.Native.Nat.{ℕ, ◌-◌}
+use Prim.Native.Nat.{◌-◌}
 use mathlib.Core.Path.{◌≡◌}
-use lib.ListN.{length, length-replicate}
-use Rattle.findings.proofs.Adding.{adds_kept}
-use Rattle.view.proofs.Taking.{takes}
+use lib.ListN.{length}
 use Rattle.conformance.specs.Adding.{Targeted}
-use Rattle.conformance.proofs.Required.{finds_hold, Going, at_start, at_end, sought, going_on}
+use Rattle.conformance.proofs.Required.{Going}
 use Rattle.conformance.proofs.check_required_fields.Given as goal
 
 abbrev pub invariant-loop-k : goal.invariant-loop-k

@@ -1,5 +1,4 @@
 use Rattle.conformance.proofs.Targets.{same_arity, other_arity}
-use borrow.Author.Rules.{rules}
 use Rattle.conformance.proofs.check_single_impl_conformance.Goals as goal
 
 pub returns-then-trait_def-impl_def : goal.returns-then-trait_def-impl_def

@@ -1,6 +1,5 @@
 use mathlib.Core.Path.{sym, ◌∙◌}
 use Rattle.conformance.proofs.Slots.{missing, other_kind, impl_part}
-use borrow.Author.Rules.{rules}
 use Rattle.conformance.proofs.check_slot.Goals as goal
 
 pub returns-then-kind-ne9 : goal.returns-then-kind-ne9

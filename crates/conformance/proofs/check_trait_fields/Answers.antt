@@ -1,6 +1,5 @@
 use mathlib.Core.Path.{sym, ◌∙◌}
 use Rattle.conformance.proofs.Targets.{no_name, past_slots, no_part, not_there, targeted, required, wrong_kind}
-use borrow.Author.Rules.{rules}
 use Rattle.conformance.proofs.check_trait_fields.Goals as goal
 
 pub returns-then-frame-target : goal.returns-then-frame-target

@@ -1,11 +1,7 @@
 use native.Mathlib.Omega.{arith}
-use Prim.Native.Nat.{◌-◌}
-use mathlib.Core.Path.{◌≡◌, refl}
-use Rattle.image.specs.declared.Frame.{Frame}
+use mathlib.Core.Path.{refl}
 use Rattle.reader.specs.Reading.{schema_of}
-use Rattle.reader.specs.Promise.{Promise}
-use Rattle.conformance.proofs.Having.{Sofar, sofar_on, sofar_stop, sofar_end}
-use borrow.Author.Rules.{rules}
+use Rattle.conformance.proofs.Having.{sofar_on, sofar_stop, sofar_end}
 use Rattle.conformance.proofs.has_impls.Goals as goal
 
 pub loop-i-init : goal.loop-i-init

@@ -1,11 +1,9 @@
-use native.Mathlib.Omega.{arith}
 use Prim.Native.Nat.{◌-◌}
-use mathlib.Core.Path.{◌≡◌, refl}
+use mathlib.Core.Path.{◌≡◌}
 use Rattle.image.specs.declared.Frame.{Frame}
 use Rattle.reader.specs.Reading.{schema_of}
 use Rattle.reader.specs.Promise.{Promise}
-use Rattle.conformance.proofs.Having.{Sofar, sofar_on, sofar_stop, sofar_end}
-use borrow.Author.Rules.{rules}
+use Rattle.conformance.proofs.Having.{Sofar}
 use Rattle.conformance.proofs.has_impls.Given as goal
 
 abbrev pub invariant-loop-i : goal.invariant-loop-i

@@ -2,7 +2,6 @@ use Prim.Native.Nat.{ℕ}
 use mathlib.Core.Path.{sym, ap, ◌∙◌}
 use lib.Dec.{eqb}
 use Rattle.reader.proofs.Fetching.{part_behind, not_missing}
-use borrow.Author.Rules.{rules}
 use Rattle.conformance.proofs.is_impl.Goals as goal
 
 pub returns-in-At : goal.returns-in-At

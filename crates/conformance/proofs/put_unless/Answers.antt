@@ -1,5 +1,4 @@
 use Rattle.findings.proofs.Adding.{found_none, lacks_one}
-use borrow.Author.Rules.{rules}
 use Rattle.conformance.proofs.put_unless.Goals as goal
 
 pub returns-then-found : goal.returns-then-found

@@ -1,6 +1,5 @@
 use Rattle.view.proofs.Taking.{takes}
 use Rattle.conformance.proofs.Bodies.{trait_is_lem}
-use borrow.Author.Rules.{rules}
 use Rattle.conformance.proofs.read_trait.Goals as goal
 
 pub returns : goal.returns

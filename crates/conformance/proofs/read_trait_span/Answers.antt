@@ -1,6 +1,5 @@
 use Rattle.view.proofs.Taking.{takes}
 use Rattle.conformance.proofs.Bodies.{span_own, span_given}
-use borrow.Author.Rules.{rules}
 use Rattle.conformance.proofs.read_trait_span.Goals as goal
 
 pub returns-then-given-eq0 : goal.returns-then-given-eq0

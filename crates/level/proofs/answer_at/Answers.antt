@@ -1,6 +1,5 @@
 use Rattle.level.specs.Level.{answer_by}
 use Rattle.level.proofs.Answers.{answer_rest}
-use borrow.Author.Rules.{rules}
 use Rattle.level.proofs.answer_at.Goals as goal
 
 pub returns-in-1 : goal.returns-in-1

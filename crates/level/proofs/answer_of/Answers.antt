@@ -1,6 +1,5 @@
 use borrow.Author.Tests.{lt-ltb, le-ltb}
 use Rattle.level.specs.Level.{names_in}
-use borrow.Author.Rules.{rules}
 use Rattle.level.proofs.answer_of.Goals as goal
 
 pub returns-then-id-slots : goal.returns-then-id-slots

@@ -1,8 +1,6 @@
 use mathlib.Core.Path.{sym, ap, ◌∙◌}
-use Rattle.sizes.specs.declared.Worked.{Worked}
 use Rattle.sizes.specs.declared.Worked.TheVariants.{Over}
 use Rattle.level.specs.Level.{answer_row}
-use borrow.Author.Rules.{rules}
 use Rattle.level.proofs.answer_row.Goals as goal
 
 pub returns-in-Sized : goal.returns-in-Sized

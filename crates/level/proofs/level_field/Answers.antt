@@ -1,4 +1,3 @@
-use borrow.Author.Rules.{rules}
 use mathlib.Core.Path.{sym, ◌∙◌}
 use Rattle.settling.proofs.Settling.{is_settled, name_settled, at_settled}
 use Rattle.level.proofs.level_field.Goals as goal

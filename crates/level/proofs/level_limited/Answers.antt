@@ -1,5 +1,4 @@
 use native.Mathlib.Omega.{arith}
-use borrow.Author.Rules.{rules}
 use mathlib.Core.Path.{refl}
 use Rattle.view.proofs.Places.{at_place}
 use Rattle.settling.proofs.Ended.{not_over}

@@ -1,4 +1,3 @@
-use borrow.Author.Rules.{rules}
 use mathlib.Core.Path.{refl, ap, ◌∙◌}
 use Rattle.wiresize.specs.Asked.{last_in}
 use Rattle.wiresize.proofs.Variants.{one_variant, message_told}

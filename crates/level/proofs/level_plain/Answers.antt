@@ -1,4 +1,3 @@
-use borrow.Author.Rules.{rules}
 use mathlib.Core.Path.{sym, ◌∙◌}
 use Rattle.view.proofs.Places.{at_place}
 use Rattle.settling.proofs.Counting.{nodes_limited}

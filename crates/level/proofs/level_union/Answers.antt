@@ -1,4 +1,3 @@
-use borrow.Author.Rules.{rules}
 use native.Mathlib.Nat.{pos_of_ne-zero}
 use mathlib.Core.Path.{refl, ap, ◌∙◌}
 use Prim.Native.Nat.{ℕ}
@@ -13,9 +12,9 @@ use Rattle.level.proofs.level_union.Goals as goal
 pub returns-in_default : goal.returns-in_default
 returns-in_default c =
     record {
-  worked = λ vs end q. absurd (not_refused (told c.read_below.ensures c.in_default.is) (count_read _ _ _ q).2);
-  visits = λ vs end q. refl;
-}
+      worked = λ vs end q. absurd (not_refused (told c.read_below.ensures c.in_default.is) (count_read _ _ _ q).2);
+      visits = λ vs end q. refl;
+    }
 
 pub returns-then-count-eq0 : goal.returns-then-count-eq0
 returns-then-count-eq0 c =

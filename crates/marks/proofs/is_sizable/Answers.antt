@@ -3,7 +3,6 @@ use mathlib.Core.Path.{sym, ◌∙◌}
 use mathlib.Core.Logic.{inl, inr}
 use Rattle.reader.proofs.Fetching.{part_behind, not_missing}
 use Rattle.marks.proofs.Starting.{sizable, not_sizable}
-use borrow.Author.Rules.{rules}
 use Rattle.marks.proofs.is_sizable.Goals as goal
 
 pub returns-in-1 : goal.returns-in-1

@@ -1,6 +1,5 @@
 -- By the limit, and then by the kind. Assumes nothing.
 use Rattle.marks.proofs.Fields.{open_marked, items_marked, entries_marked}
-use borrow.Author.Rules.{rules}
 use Rattle.marks.proofs.mark_elements.Goals as goal
 
 pub returns-then-limit-eq0 : goal.returns-then-limit-eq0

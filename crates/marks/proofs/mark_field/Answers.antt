@@ -4,7 +4,6 @@ use native.Mathlib.Omega.{arith}
 use Prim.Native.Nat.{◌+◌}
 use Rattle.slot.proofs.FourBytes.{short_bytes}
 use Rattle.marks.proofs.Fields.{limit_end, short_marked}
-use borrow.Author.Rules.{rules}
 use Rattle.marks.proofs.mark_field.Goals as goal
 
 pub overflow_add-at : goal.overflow_add-at

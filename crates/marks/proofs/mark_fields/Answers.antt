@@ -1,11 +1,7 @@
-use native.Mathlib.Omega.{arith}
-use mathlib.Core.Path.{◌≡◌, refl}
+use mathlib.Core.Path.{refl}
 use borrow.Author.Rules.{rules}
-use lib.ListN.{length}
 use Rattle.number.proofs.Reading.{told}
-use Rattle.slot.specs.Field.{field_at}
-use Rattle.sizes.specs.Lengths.{field_parts}
-use Rattle.marks.proofs.Runs.{Left, left_start, left_on, left_end, counted_marked, counted_not, fields_all}
+use Rattle.marks.proofs.Runs.{left_start, left_on, left_end, counted_marked, counted_not, fields_all}
 use Rattle.marks.proofs.mark_fields.Goals as goal
 
 pub returns-in_default : goal.returns-in_default

@@ -1,12 +1,9 @@
 -- What is marked so far and what is still to come are the whole run.
-use native.Mathlib.Omega.{arith}
-use mathlib.Core.Path.{◌≡◌, refl}
-use borrow.Author.Rules.{rules}
+use mathlib.Core.Path.{◌≡◌}
 use lib.ListN.{length}
-use Rattle.number.proofs.Reading.{told}
 use Rattle.slot.specs.Field.{field_at}
 use Rattle.sizes.specs.Lengths.{field_parts}
-use Rattle.marks.proofs.Runs.{Left, left_start, left_on, left_end, counted_marked, counted_not, fields_all}
+use Rattle.marks.proofs.Runs.{Left}
 use Rattle.marks.proofs.mark_fields.Given as goal
 
 abbrev pub invariant-loop-left : goal.invariant-loop-left

@@ -2,7 +2,6 @@
 use mathlib.Core.Logic.{inl, inr}
 use Rattle.number.proofs.Reading.{told}
 use Rattle.marks.proofs.Fields.{none_marked, other_marked}
-use borrow.Author.Rules.{rules}
 use Rattle.marks.proofs.mark_limited.Goals as goal
 
 pub returns-in_default : goal.returns-in_default

@@ -1,6 +1,5 @@
 -- By the encoding that governs the field. Assumes nothing.
 use Rattle.marks.proofs.Fields.{plain_marked, varint_marked, zigzag_marked}
-use borrow.Author.Rules.{rules}
 use Rattle.marks.proofs.mark_long.Goals as goal
 
 pub returns-in-Plain : goal.returns-in-Plain

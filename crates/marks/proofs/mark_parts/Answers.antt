@@ -1,10 +1,5 @@
-use Prim.Native.Nat.{◌-◌, ◌≤◌}
 use native.Mathlib.Omega.{arith}
 use mathlib.Core.Path.{◌≡◌}
-use borrow.Author.Rules.{rules}
-use Rattle.loops.specs.Marks.{Filled}
-use Rattle.reader.specs.Reading.{schema_of}
-use Rattle.sizes.specs.Reached.{part_leads}
 use Rattle.marks.proofs.Runs.{parts_start, parts_on}
 use Rattle.marks.proofs.mark_parts.Goals as goal
 

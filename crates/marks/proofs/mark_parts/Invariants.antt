@@ -1,12 +1,8 @@
 -- The rows of the slots passed have their marks.
 use Prim.Native.Nat.{◌-◌, ◌≤◌}
-use native.Mathlib.Omega.{arith}
-use mathlib.Core.Path.{◌≡◌}
-use borrow.Author.Rules.{rules}
 use Rattle.loops.specs.Marks.{Filled}
 use Rattle.reader.specs.Reading.{schema_of}
 use Rattle.sizes.specs.Reached.{part_leads}
-use Rattle.marks.proofs.Runs.{parts_start, parts_on}
 use Rattle.marks.proofs.mark_parts.Given as goal
 
 abbrev pub invariant-loop-i : goal.invariant-loop-i

@@ -1,6 +1,5 @@
 -- Edition one has no limits. Assumes nothing.
 use Rattle.marks.proofs.Fields.{one_marked}
-use borrow.Author.Rules.{rules}
 use Rattle.marks.proofs.mark_plain.Goals as goal
 
 pub returns-in-One : goal.returns-in-One

@@ -1,6 +1,5 @@
 -- A name in Default, another leaf in Default, or another encoding. Assumes nothing.
 use Rattle.marks.proofs.Fields.{short_name, short_leaf_lem, short_coded}
-use borrow.Author.Rules.{rules}
 use Rattle.marks.proofs.mark_short.Goals as goal
 
 pub returns-in-3 : goal.returns-in-3

@@ -3,7 +3,6 @@ use mathlib.Core.Path.{sym, ◌∙◌}
 use Rattle.reader.specs.Reading.{schema_of}
 use Rattle.reader.proofs.Fetching.{part_behind, not_missing}
 use Rattle.marks.proofs.Runs.{slot_message, slot_union, slot_newtype, slot_other}
-use borrow.Author.Rules.{rules}
 use Rattle.marks.proofs.mark_slot.Goals as goal
 
 pub returns-in_default : goal.returns-in_default

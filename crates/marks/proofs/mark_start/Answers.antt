@@ -1,7 +1,6 @@
 -- A slot that is there, and is a message or a union. Assumes nothing.
 use mathlib.Core.Path.{sym, ◌∙◌}
 use Rattle.marks.proofs.Starting.{not_there, not_one, is_one}
-use borrow.Author.Rules.{rules}
 use Rattle.marks.proofs.mark_start.Goals as goal
 
 pub returns-then-is_sizable : goal.returns-then-is_sizable

@@ -1,7 +1,5 @@
-use borrow.Author.Rules.{rules}
 use native.Mathlib.Omega.{arith}
-use Rattle.reader.specs.Reading.{schema_of}
-use Rattle.marks.proofs.Starting.{Going, going_start, going_on, going_end}
+use Rattle.marks.proofs.Starting.{going_start, going_on, going_end}
 use Rattle.marks.proofs.mark_starts.Goals as goal
 
 pub loop-left-init : goal.loop-left-init

@@ -1,8 +1,6 @@
 -- The declarations passed are marked. Assumes nothing.
-use borrow.Author.Rules.{rules}
-use native.Mathlib.Omega.{arith}
 use Rattle.reader.specs.Reading.{schema_of}
-use Rattle.marks.proofs.Starting.{Going, going_start, going_on, going_end}
+use Rattle.marks.proofs.Starting.{Going}
 use Rattle.marks.proofs.mark_starts.Given as goal
 
 abbrev pub invariant-loop-left : goal.invariant-loop-left

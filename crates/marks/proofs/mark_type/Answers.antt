@@ -1,5 +1,4 @@
 -- Only expressions ask what names find.
-use borrow.Author.Rules.{rules}
 use Rattle.marks.proofs.Fields.{type_marked}
 use Rattle.marks.proofs.mark_type.Goals as goal
 

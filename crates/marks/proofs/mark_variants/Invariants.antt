@@ -1,12 +1,9 @@
 -- What is marked so far and what is still to come are the whole run.
-use native.Mathlib.Omega.{arith}
-use mathlib.Core.Path.{◌≡◌, refl}
-use borrow.Author.Rules.{rules}
+use mathlib.Core.Path.{◌≡◌}
 use lib.ListN.{length}
-use Rattle.number.proofs.Reading.{told}
 use Rattle.slot.specs.Field.{fields_at}
 use Rattle.sizes.specs.Lengths.{fields_parts}
-use Rattle.marks.proofs.Runs.{Left, left_start, left_on, left_end, counted_marked, counted_not, variants_all}
+use Rattle.marks.proofs.Runs.{Left}
 use Rattle.marks.proofs.mark_variants.Given as goal
 
 abbrev pub invariant-loop-left : goal.invariant-loop-left

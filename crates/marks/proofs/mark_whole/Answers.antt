@@ -1,6 +1,5 @@
 -- The type, and then its limit. Assumes nothing.
 use Rattle.marks.proofs.Fields.{limit_end, whole_marked}
-use borrow.Author.Rules.{rules}
 use Rattle.marks.proofs.mark_whole.Goals as goal
 
 pub returns : goal.returns

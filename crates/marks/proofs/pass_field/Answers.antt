@@ -1,6 +1,5 @@
 -- A type and its limit end where the cursor stands. Assumes nothing.
 use Rattle.marks.proofs.Fields.{passed}
-use borrow.Author.Rules.{rules}
 use Rattle.marks.proofs.pass_field.Goals as goal
 
 pub returns : goal.returns

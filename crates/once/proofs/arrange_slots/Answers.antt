@@ -1,11 +1,10 @@
 use Prim.Native.Nat.{◌-◌}
-use mathlib.Core.Path.{◌≡◌, ap, ◌∙◌}
+use mathlib.Core.Path.{ap, ◌∙◌}
 use mathlib.Core.List.{List}
 use mathlib.Core.Bool.{Bool}
 use native.Mathlib.Omega.{arith}
 use lib.ListN.{take}
 use Rattle.once.proofs.Arranging.{blank_part, in_order, on_loop, no_loop}
-use borrow.Author.Rules.{rules}
 use Rattle.once.proofs.arrange_slots.Goals as goal
 
 pub arrange-requires : goal.arrange-requires

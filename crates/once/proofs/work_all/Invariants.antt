@@ -1,15 +1,10 @@
 use Prim.Native.Nat.{◌-◌}
-use mathlib.Core.Path.{◌≡◌, refl, ◌∙◌}
-use mathlib.Core.List.{List}
-use native.Mathlib.Omega.{arith}
+use mathlib.Core.Path.{◌≡◌}
 use lib.ListN.{length}
-use borrow.Author.Rules.{rules}
 use Rattle.reader.specs.Reading.{schema_of}
-use Rattle.settling.specs.Steps.{frame_of}
 use Rattle.sizes.specs.Reached.{slot_count}
 use Rattle.marks.specs.Marks.{Sorted}
-use Rattle.wiresize.proofs.Nodes.{slot_few}
-use Rattle.once.proofs.Working.{Going, going_start, next_unknown, going_on, going_end}
+use Rattle.once.proofs.Working.{Going}
 use Rattle.once.proofs.work_all.Given as goal
 
 abbrev pub invariant-loop-k : goal.invariant-loop-k

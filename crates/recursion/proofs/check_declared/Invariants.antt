@@ -1,10 +1,7 @@
-use borrow.Author.Rules.{rules}
-use native.Mathlib.Omega.{arith}
-use mathlib.Core.Path.{◌≡◌, refl}
+use mathlib.Core.Path.{◌≡◌}
 use lib.ListN.{length}
-use Rattle.number.proofs.Reading.{told}
 use Rattle.reader.specs.Reading.{schema_of}
-use Rattle.recursion.proofs.Checking.{Turn, first_turn, small_count, never_refused, next_turn, last_turn}
+use Rattle.recursion.proofs.Checking.{Turn}
 use Rattle.recursion.proofs.check_declared.Given as goal
 
 abbrev pub invariant-loop-left : goal.invariant-loop-left

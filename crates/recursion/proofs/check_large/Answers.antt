@@ -1,6 +1,5 @@
 use native.Mathlib.Omega.{arith}
 use Rattle.recursion.proofs.Checking.{roomy}
-use borrow.Author.Rules.{rules}
 use Rattle.recursion.proofs.check_large.Goals as goal
 
 pub check_with-requires : goal.check_with-requires

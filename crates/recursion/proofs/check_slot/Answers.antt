@@ -2,7 +2,6 @@ use native.Mathlib.Omega.{arith}
 use mathlib.Core.Path.{sym, ◌∙◌}
 use Rattle.reader.proofs.Fetching.{part_behind, not_missing}
 use Rattle.recursion.proofs.Checking.{countable, slot_past, slot_not, slot_free, slot_found_lem}
-use borrow.Author.Rules.{rules}
 use Rattle.recursion.proofs.check_slot.Goals as goal
 
 pub returns-then-frame-slot : goal.returns-then-frame-slot

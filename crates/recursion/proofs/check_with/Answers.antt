@@ -1,5 +1,4 @@
 use Rattle.recursion.proofs.Checking.{listable, tables}
-use borrow.Author.Rules.{rules}
 use Rattle.recursion.proofs.check_with.Goals as goal
 
 pub list_slots-requires : goal.list_slots-requires

@@ -1,6 +1,5 @@
 use Rattle.view.proofs.Taking.{takes}
 use Rattle.recursion.proofs.Checking.{finding_is}
-use borrow.Author.Rules.{rules}
 use Rattle.recursion.proofs.finding_at.Goals as goal
 
 pub returns : goal.returns

@@ -1,6 +1,6 @@
 use native.Mathlib.Omega.{arith}
 use Rattle.findings.proofs.Adding.{adds_kept}
-use Rattle.recursion.proofs.Checking.{Putting, put_start, put_on, put_end}
+use Rattle.recursion.proofs.Checking.{put_start, put_on, put_end}
 use Rattle.recursion.proofs.put_findings.Goals as goal
 
 pub loop-left-init : goal.loop-left-init

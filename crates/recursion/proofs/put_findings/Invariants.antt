@@ -1,6 +1,4 @@
-use native.Mathlib.Omega.{arith}
-use Rattle.findings.proofs.Adding.{adds_kept}
-use Rattle.recursion.proofs.Checking.{Putting, put_start, put_on, put_end}
+use Rattle.recursion.proofs.Checking.{Putting}
 use Rattle.recursion.proofs.put_findings.Given as goal
 
 abbrev pub invariant-loop-left : goal.invariant-loop-left

@@ -1,7 +1,6 @@
 use mathlib.Core.Path.{sym, ◌∙◌}
 use Rattle.number.proofs.Reading.{told}
 use Rattle.search.proofs.Searching.{head_is, head_cut, encoding_cut}
-use borrow.Author.Rules.{rules}
 use Rattle.search.proofs.field_head.Goals as goal
 
 pub returns-in-At : goal.returns-in-At

@@ -1,8 +1,5 @@
-use borrow.Author.Rules.{rules}
-use native.Mathlib.Omega.{arith}
-use Rattle.search.proofs.Searching.{of_name, is_named, name_differs, Left, at_start, at_end, field_asked, hit, onward, field_cut}
+use Rattle.search.proofs.Searching.{of_name, is_named, name_differs, at_start, at_end, field_asked, hit, onward, field_cut}
 use mathlib.Core.Bool.{false}
-use mathlib.Core.Logic.{⊎_elim}
 use mathlib.Core.Path.{refl}
 use Rattle.search.proofs.has_field.Goals as goal
 use Rattle.search.proofs.has_field.Goals.{then-field-name+else-is_field, else-field-name}

@@ -1,9 +1,4 @@
-use borrow.Author.Rules.{rules}
-use native.Mathlib.Omega.{arith}
-use Rattle.search.proofs.Searching.{of_name, is_named, name_differs, Left, at_start, at_end, field_asked, hit, onward, field_cut}
-use mathlib.Core.Bool.{false}
-use mathlib.Core.Logic.{⊎_elim}
-use mathlib.Core.Path.{refl}
+use Rattle.search.proofs.Searching.{Left}
 use Rattle.search.proofs.has_field.Given as goal
 
 abbrev pub invariant-loop-left : goal.invariant-loop-left

@@ -1,6 +1,5 @@
 use Rattle.search.proofs.Searching.{compare_asked, type_same, type_differs}
 use mathlib.Core.Path.{refl}
-use borrow.Author.Rules.{rules}
 use Rattle.search.proofs.is_field.Goals as goal
 
 pub types_compatible-requires : goal.types_compatible-requires

@@ -1,4 +1,3 @@
-use borrow.Author.Rules.{rules}
 use Rattle.search.proofs.Sought.{looks_up, places_hold, search_asked, found_if}
 use Rattle.search.proofs.search_field.Goals as goal
 

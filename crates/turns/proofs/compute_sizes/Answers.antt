@@ -1,7 +1,6 @@
 use native.Mathlib.Omega.{arith}
 use Rattle.reader.proofs.Judging.{first_places}
 use Rattle.turns.proofs.Saying.{read_said, refused_said}
-use borrow.Author.Rules.{rules}
 use Rattle.turns.proofs.compute_sizes.Goals as goal
 
 pub slice_bounds-size_slots-end : goal.slice_bounds-size_slots-end

@@ -1,5 +1,4 @@
 use Rattle.turns.proofs.Saying.{gate_ordinary, gate_at, gate_nowhere}
-use borrow.Author.Rules.{rules}
 use Rattle.turns.proofs.gate.Goals as goal
 
 pub returns-in-Ordinary : goal.returns-in-Ordinary

@@ -1,6 +1,5 @@
 use mathlib.Core.Path.{sym, ◌∙◌}
 use Rattle.turns.proofs.Saying.{shut_out, let_in}
-use borrow.Author.Rules.{rules}
 use Rattle.turns.proofs.size_slots.Goals as goal
 
 pub returns-in-Refused : goal.returns-in-Refused

@@ -1,6 +1,5 @@
 use native.Mathlib.Omega.{arith}
 use Rattle.turns.proofs.Turning.{holds, beyond, other, over, sized}
-use borrow.Author.Rules.{rules}
 use Rattle.turns.proofs.take_turn.Goals as goal
 
 pub returns-then-scope-slot : goal.returns-then-scope-slot

@@ -2,8 +2,7 @@ use Rattle.turns.specs.declared.Passed.{Passed}
 use borrow.Author.Rules.{rules}
 use native.Mathlib.Omega.{arith}
 use Rattle.number.proofs.Reading.{told}
-use Rattle.reader.specs.Reading.{schema_of}
-use Rattle.turns.proofs.Turning.{Going, turn_held, first_turn, last_turn, stop_turn, over_turn, next_turn}
+use Rattle.turns.proofs.Turning.{turn_held, first_turn, last_turn, stop_turn, over_turn, next_turn}
 use Rattle.turns.proofs.take_turns.Goals as goal
 
 pub loop-left-init : goal.loop-left-init

@@ -1,9 +1,6 @@
 use mathlib.Core.Path.{refl}
-use Prim.Native.Nat.{◌*◌, ◌+◌, ◌-◌}
-use Rattle.graph.specs.Loops.{unvisited}
-use Rattle.walks.specs.Walk.{Held}
 use Rattle.walks.proofs.Walking.{Whole}
-use Rattle.walks.proofs.Along.{before, behind, name_past, name_found, name_back, name_visited, inside_fewer, inside_fits, name_inside, Along, along_start, along_fits, along_on, along_end}
+use Rattle.walks.proofs.Along.{before, behind, name_past, name_found, name_back, name_visited, inside_fewer, inside_fits, name_inside, along_start, along_fits, along_on, along_end}
 use native.Mathlib.Omega.{arith}
 use borrow.Author.Rules.{rules}
 use Rattle.walks.proofs.+walk_slot_walk_type_for_recursion.Goals as goal

@@ -1,6 +1,5 @@
 use mathlib.Core.Path.{refl}
 use Rattle.findings.specs.Endless.{counted}
-use borrow.Author.Rules.{rules}
 use Rattle.walks.proofs.count_one.Goals as goal
 
 pub returns : goal.returns

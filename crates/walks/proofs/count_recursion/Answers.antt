@@ -1,7 +1,6 @@
 use native.Mathlib.Omega.{arith}
 use Rattle.findings.specs.Endless.{start}
 use Rattle.walks.proofs.Along.{ordered, start_fits, count_is, count_none}
-use borrow.Author.Rules.{rules}
 use Rattle.walks.proofs.count_recursion.Goals as goal
 
 pub place-requires : goal.place-requires

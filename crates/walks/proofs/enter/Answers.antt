@@ -1,5 +1,4 @@
 use Rattle.findings.specs.Endless.{entered}
-use borrow.Author.Rules.{rules}
 use Rattle.walks.proofs.enter.Goals as goal
 
 pub returns-then-joins : goal.returns-then-joins

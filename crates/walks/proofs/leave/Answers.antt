@@ -1,5 +1,4 @@
 use Rattle.findings.specs.Endless.{left}
-use borrow.Author.Rules.{rules}
 use Rattle.walks.proofs.leave.Goals as goal
 
 pub returns-then-joins : goal.returns-then-joins
