@@ -189,9 +189,8 @@ fn names_are_there() {
 
 /// The file of definitions behind a line that brings names in.
 fn brought(line: &str) -> Option<String> {
-    let path = line.split("use Rattle·").nth(1)?;
+    let path = line.split("use Rattle.").nth(1)?;
     let (owner, rest) = path.split_once(".specs.")?;
-    let owner = owner.trim_end_matches("·specs");
     let module = rest.split(['.', ' ']).next()?;
     let file = format!("{owner}/specs/{module}.antt");
     root().join("crates").join(&file).exists().then_some(file)

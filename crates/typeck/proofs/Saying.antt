@@ -2,16 +2,13 @@
 use Prim.Native.Nat.{ℕ, ◌+◌, ◌*◌, ◌^◌, ◌≤◌, ◌<◌}
 use mathlib.Core.Path.{◌≡◌, refl, sym, ap, ap₂, subst, ◌∙◌}
 use mathlib.Core.List.{List, [], ◌++◌}
-use mathlib.Core.Bool.{Bool, true, false, cond}
 use native.Mathlib.Omega.{arith}
-use lib.Dec.{ltb}
 use lib.ListN.{length, length-append}
 use borrow.Author.Tests.{lt-ltb, le-ltb}
 use Rattle.table.specs.Fitted.{fitted}
 use Rattle.table.proofs.Fitting.{fitted_length}
 use Rattle.image.specs.Schema.{Schema}
-use Rattle.reader.specs.Reading.{reading_of, schema_of}
-use Rattle.reader.specs.declared.Reading.{Reading}
+use Rattle.reader.specs.Reading.{schema_of}
 use Rattle.sizes.specs.Demand.{Demand3}
 use Rattle.turns.specs.Sizing.{layout_of, table_by, sizes_of}
 use Rattle.turns.specs.Sizing as sizing

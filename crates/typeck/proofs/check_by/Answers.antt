@@ -3,7 +3,6 @@ use native.Mathlib.Omega.{arith}
 use Rattle.reader.proofs.Judging.{first_places}
 use Rattle.turns.proofs.Saying as sizing
 use Rattle.typeck.proofs.Saying.{found_said, refused_said, cleared_length, cleared_itself}
-use borrow.Author.Rules.{rules}
 use Rattle.typeck.proofs.check_by.Goals as goal
 
 pub slice_bounds-slots-end : goal.slice_bounds-slots-end

@@ -1,4 +1,3 @@
-use borrow.Author.Rules.{rules}
 use Rattle.typeck.proofs.check_two.Goals as goal
 
 pub returns : goal.returns

@@ -1,6 +1,5 @@
 use Rattle.order.proofs.Ranks.{none_in_order}
 use Rattle.recursion.proofs.Checking.{none_found}
-use borrow.Author.Rules.{rules}
 use Rattle.typeck.proofs.count_endless.Goals as goal
 
 pub returns-then-ordered : goal.returns-then-ordered

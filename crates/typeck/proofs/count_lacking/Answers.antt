@@ -1,7 +1,6 @@
 use native.Mathlib.Omega.{arith}
 use Rattle.findings.proofs.Adding.{adds_none, adds_same}
 use Rattle.conformance.proofs.Having.{none_lacking}
-use borrow.Author.Rules.{rules}
 use Rattle.typeck.proofs.count_lacking.Goals as goal
 
 pub check_impl_conformance-requires : goal.check_impl_conformance-requires

@@ -3,7 +3,6 @@ use mathlib.Core.Bool.{true≢false}
 use Rattle.order.proofs.Ranks.{none_in_order}
 use Rattle.conformance.proofs.Having.{none_lacking}
 use Rattle.typeck.proofs.Saying.{nothing_found}
-use borrow.Author.Rules.{rules}
 use Rattle.typeck.proofs.find.Goals as goal
 
 pub has_impls-impls-requires : goal.has_impls-impls-requires

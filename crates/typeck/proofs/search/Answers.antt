@@ -1,7 +1,6 @@
 use native.Mathlib.Omega.{arith}
 use Rattle.findings.specs.Finding.{rows_of}
 use Rattle.typeck.proofs.Saying.{both_noted, no_places, all_found}
-use borrow.Author.Rules.{rules}
 use Rattle.typeck.proofs.search.Goals as goal
 
 pub count_endless-endless-requires : goal.count_endless-endless-requires
