@@ -1,7 +1,6 @@
 use Rattle.report.proofs.Texts.{text_is}
 use lib.ListN.{length-replicate}
 use Prim.Native.Nat.{ℕ}
-use borrow.Author.Rules.{rules}
 use Rattle.report.proofs.report.Goals as goal
 
 pub returns : goal.returns

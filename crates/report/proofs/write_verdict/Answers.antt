@@ -1,7 +1,6 @@
 use native.Mathlib.Omega.{arith}
 use Rattle.report.proofs.Texts.{accepted_written, refused_written}
 use Rattle.report.specs.Text.{text_of}
-use borrow.Author.Rules.{rules}
 use Rattle.report.proofs.write_verdict.Goals as goal
 
 pub returns-in-Accepted : goal.returns-in-Accepted
