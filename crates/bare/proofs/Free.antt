@@ -16,7 +16,7 @@ use Rattle.graph.specs.Loops.{is_false, not_both, joined, via_path, path_via, at
 use Rattle.graph.specs.declared.Lowest.{Lowest}
 use Rattle.image.specs.Schema.{Schema, slot_of}
 use Rattle.loops.specs.Leads.{leaf_slots}
-use Rattle.loops.specs.Chains.{has_append}
+use Rattle.loops.proofs.Chains.{has_append}
 use Rattle.findings.specs.Endless.{endless_of}
 use Rattle.order.specs.Order.{bare_leaf, bare_type, bare_fields, bare_slot}
 use Rattle.order.proofs.Ranks.{Onward, none_endless}

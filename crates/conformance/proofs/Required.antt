@@ -159,12 +159,12 @@ module _ (s starts : List ℕ) (f : Frame) (d : ImplDef) (e : TraitDef) (slot pl
 
       -- whether it is there
       pub going_on : (found : Bool) → FoundIf f s e.type_params d.type_args d.type_arg_count m c v at found
-          → (look_ups_lem next : ℕ) → LooksUp f.names s at look_ups_lem next
+          → (look_ups next : ℕ) → LooksUp f.names s at look_ups next
           → (after : List ℕ) → PlacesHold f.names s e.type_params d.type_args d.type_arg_count at places after
           → (y : Finding) → y ≡ own_finding 4 slot d k → (table : List ℕ) (r : ℕ) → Adds 1 now table n r (cond found [] (y ∷ []))
           → (x : Targeted s starts f d e place held) → Going x before now places n p k → Going x before table after r next (k + 1)
       unfolding sought
-      going_on found w look_ups_lem next l after hold-after y own table r add x g =
+      going_on found w look_ups next l after hold-after y own table r add x g =
           let a = next_field x g in
           let S = schema_of f.edition s in
           let i = x.paired.impl in

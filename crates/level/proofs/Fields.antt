@@ -8,7 +8,7 @@ use Rattle.sizes.specs.declared.Worked.{Worked}
 use Rattle.sizes.specs.declared.Worked.TheVariants.{Sized}
 use Rattle.sizes.specs.Elements.{Element, item, entry}
 use Rattle.sizes.specs.Sizes.{then}
-use Rattle.sizes.specs.Steps.{then_made}
+use Rattle.sizes.proofs.Steps.{then_made}
 use Rattle.sizes.specs.Nodes.{type_nodes, element_nodes}
 
 pub item_nodes : {e : Element} {t : Tree} → e ≡ item t → {v : ℕ} → v ≡ type_nodes t → 1 + v ≡ suc (element_nodes e)

@@ -16,7 +16,7 @@ use Rattle.sizes.specs.declared.Operation.{Operation}
 use Rattle.sizes.specs.declared.Worked.{Worked}
 use Rattle.sizes.specs.declared.Worked.TheVariants.{Sized, Over}
 use Rattle.sizes.specs.Sizes.{then, laid, Resolver, field_alone, fields_size, mark, widened}
-use Rattle.sizes.specs.Steps.{then_made}
+use Rattle.sizes.proofs.Steps.{then_made}
 use Rattle.sizes.specs.Nodes.{field_nodes, fields_nodes, variants_nodes}
 use Rattle.total.specs.Totals.{size_of, total_of, sum_of, total_after, step_of}
 use Rattle.total.specs.declared.Step.{Step}

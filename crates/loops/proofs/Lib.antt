@@ -1,3 +1,4 @@
+pub mod Chains
 pub mod Marking
 mod Filling
 pub mod Leading

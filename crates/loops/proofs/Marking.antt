@@ -20,7 +20,7 @@ use Rattle.graph.specs.Ways.{has}
 use Rattle.graph.specs.Table.{grid, Marked}
 use Rattle.graph.proofs.Rows.{grown_none, grown_as}
 use Rattle.loops.specs.Leads.{followed, followed_pair, terminal_slots, found, generic_slots, tree_slots}
-use Rattle.loops.specs.Chains.{has_append}
+use Rattle.loops.proofs.Chains.{has_append}
 use Rattle.view.specs.Take.{place_of}
 use Rattle.loops.specs.Marks.{enters, name_slots, Led, TreeMarked}
 

@@ -30,7 +30,7 @@ use Rattle.view.specs.Take.{place_of}
 use Rattle.view.proofs.Places.{at_place}
 use Rattle.sizes.specs.Elements.{Count, at_most_one, any_number, exactly, count_of, Element, wrap_element, element_of, is_plain, with_limit, limited_element}
 use Rattle.sizes.specs.Lengths.{leaf_parts, wrap_parts, type_parts, encoded_parts, element_parts, own_parts, field_parts}
-use Rattle.sizes.specs.Limits.{by_type, by_limit, by_encoding, by_all}
+use Rattle.sizes.proofs.Limits.{by_type, by_limit, by_encoding, by_all}
 use Rattle.settling.specs.Steps.{Codes, LimitBehind, Holds, plain_at}
 use Rattle.settling.specs.declared.Coded.{Coded}
 use Rattle.settling.proofs.Elements.{no_element_lem, first_of, run_of, PlainParts, plain_parts, plain_reads}

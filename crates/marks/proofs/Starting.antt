@@ -17,7 +17,7 @@ use Rattle.slot.specs.declared.Edition.{Edition}
 use Rattle.graph.specs.Ways.{has}
 use Rattle.image.specs.Schema.{Schema, slot_of}
 use Rattle.image.specs.declared.Frame.{Frame}
-use Rattle.loops.specs.Chains.{has_append}
+use Rattle.loops.proofs.Chains.{has_append}
 use Rattle.view.specs.Take.{taken_of, taken_at}
 use Rattle.view.specs.declared.Taken.{Taken}
 use Rattle.view.proofs.Fetching.{Behind}

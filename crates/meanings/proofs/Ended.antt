@@ -10,7 +10,8 @@ use Rattle.slot.specs.Slot.{Slot, empty, message, enum, flags, union, newtype, c
 use Rattle.image.specs.Schema.{Schema, slot_of}
 use Rattle.image.specs.declared.Frame.{Frame}
 use Rattle.loops.specs.Refusals.{is_not_looped}
-use Rattle.loops.specs.Chains.{AllGenerics, AliasesEnd, aliases_end}
+use Rattle.loops.specs.Chains.{AllGenerics, AliasesEnd}
+use Rattle.loops.proofs.Chains.{aliases_end}
 use Rattle.reader.specs.Reading.{schema_of}
 use Rattle.reader.specs.Promise.{Promise}
 use Rattle.meanings.specs.Rank.{height_found, rank, slot_height, height, Ranked}

@@ -17,7 +17,7 @@ use Rattle.sizes.specs.declared.Worked.TheVariants.{Sized, Over}
 use Rattle.sizes.specs.Names.{content_of}
 use Rattle.sizes.specs.Lengths.{parts_of}
 use Rattle.sizes.specs.Nodes.{content_nodes}
-use Rattle.sizes.specs.Fuel.{Agree}
+use Rattle.sizes.proofs.Fuel.{Agree}
 use Rattle.sizes.specs.Steady.{plain_size}
 use Rattle.sizes.specs.Reached.{slot_count, is_reached, visits_of}
 use Rattle.sizes.proofs.OneVisit.{has_of_member, reached_free, worked_right, past_open}

@@ -27,7 +27,7 @@ use Rattle.sizes.specs.declared.Size.TheVariants.{Fixed, Bounded, Open}
 use Rattle.sizes.specs.Names.{State}
 use Rattle.sizes.specs.Check.{size_in, brought_in, brought, is_there, row, size_row, slot_row}
 use Rattle.sizes.specs.Demand.{Sizable, is_message, is_union}
-use Rattle.sizes.specs.Table.{sizable_row}
+use Rattle.sizes.proofs.Table.{sizable_row}
 use Rattle.rows.specs.Rows.{numbers, Takes, Tops, RowIs, BringsIs}
 use Rattle.rows.specs.declared.Row.{Row}
 use Rattle.rows.proofs.Taking.{take_on}

@@ -16,8 +16,8 @@ use Rattle.sizes.specs.declared.Size.{Size}
 use Rattle.sizes.specs.Names.{State}
 use Rattle.sizes.specs.Check.{store, row, size_row, slot_row, rows_from, table_of, size_at}
 use Rattle.sizes.specs.Demand.{Sizable}
-use Rattle.sizes.specs.Turns.{store_same, store_other}
-use Rattle.sizes.specs.Table.{Row, slot_row_lem, sizable_row, table_place, table_entry}
+use Rattle.sizes.proofs.Turns.{store_same, store_other}
+use Rattle.sizes.proofs.Table.{Row, slot_row_lem, sizable_row, table_place, table_entry}
 
 -- ## Runs of stores
 

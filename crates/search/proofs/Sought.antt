@@ -33,12 +33,12 @@ module _ {s starts : List ℕ} {f : Frame} {finds before : List ℕ} {list start
       let k = a.looks in
       (noted k (h k.parameters k.types k.bound k.tree k.end k.reads)).sound a.sound
 
-  module _ (look_ups_lem next : ℕ) (l : RightLook f.names 32 s expression list start arguments before after look_ups_lem next) where
+  module _ (look_ups next : ℕ) (l : RightLook f.names 32 s expression list start arguments before after look_ups next) where
     abbrev looks : (ps : List ℕ) (ts : List Tree) → Bound f.names s list start arguments ps ts → (e : Tree) (end : ℕ) → read (expression_at f.names) s expression ≡ done e end
         → LookAsked f.names 32 s expression list start arguments
     looks ps ts b e end q = record { few = omega arith; parameters = ps; types = ts; bound = b; tree = e; end = end; reads = q }
 
-    pub looks_up : (told end-told : ℕ) → told ≡ look_ups_lem → end-told ≡ next → LooksUp f.names s expression told end-told
+    pub looks_up : (told end-told : ℕ) → told ≡ look_ups → end-told ≡ next → LooksUp f.names s expression told end-told
     looks_up told end-told t u e end q = let j = l (looks a.looks.parameters a.looks.types a.looks.bound e end q) in (t ∙ j.0, u ∙ j.2)
 
     pub places_hold : PlacesHold f.names s list start arguments expression before after

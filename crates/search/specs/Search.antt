@@ -82,9 +82,9 @@ FoundIf f s list start arguments fields count name expression r =
     → r ≡ has_field fs name (meaning_of (schema_of f.edition s) ps ts e)
 
 -- one look-up for each plain name of the expression, and the position after it: whatever the message's fields, and however many are tried
-abbrev pub LooksUp : (names : ℕ) → (s : List ℕ) → (expression look_ups_lem next : ℕ) → Type 0
-LooksUp names s expression look_ups_lem next =
-    (e : Tree) (end : ℕ) → read (expression_at names) s expression ≡ done e end → (look_ups_lem ≡ occurs e) × (next ≡ end)
+abbrev pub LooksUp : (names : ℕ) → (s : List ℕ) → (expression look_ups next : ℕ) → Type 0
+LooksUp names s expression look_ups next =
+    (e : Tree) (end : ℕ) → read (expression_at names) s expression ≡ done e end → (look_ups ≡ occurs e) × (next ≡ end)
 
 -- the table with those names looked up
 abbrev pub PlacesHold : (names : ℕ) → (s : List ℕ) → (list start arguments expression : ℕ) → (before after : List ℕ) → Type 0

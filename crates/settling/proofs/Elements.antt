@@ -32,7 +32,7 @@ use Rattle.sizes.specs.declared.Worked.TheVariants.{Sized, Over}
 use Rattle.sizes.specs.Elements.{Count, at_most_one, any_number, exactly, count_of, Element, item, entry, wrap_element, element_of, is_plain, with_limit, limited_element}
 use Rattle.sizes.specs.Nodes.{type_nodes, field_nodes}
 use Rattle.sizes.specs.Sizes.{Resolver, largest, then, limited_sum, wrap_size, type_size, encoded_size, entry_size, element_size, up_to, elements_size, field_alone}
-use Rattle.sizes.specs.Limits.{by_type, by_limit, by_all, alone_unlimited, alone_limited}
+use Rattle.sizes.proofs.Limits.{by_type, by_limit, by_all, alone_unlimited, alone_limited}
 use Rattle.settling.specs.Steps.{LimitBehind, Holds, element_at, Bears, plain_at, Told, Plains}
 use Rattle.settling.specs.declared.Plain.{Plain}
 use Rattle.settling.specs.declared.Walked.{Walked}

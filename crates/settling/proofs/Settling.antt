@@ -18,7 +18,7 @@ use Rattle.sizes.specs.Sizes.{Resolver, leaf_size, type_size, encoded_size, fiel
 use Rattle.sizes.specs.declared.Size.{Size}
 use Rattle.sizes.specs.declared.Size.TheVariants.{Bounded}
 use Rattle.sizes.specs.declared.Worked.TheVariants.{Sized}
-use Rattle.sizes.specs.Limits.{by_type, by_encoding, alone_unlimited}
+use Rattle.sizes.proofs.Limits.{by_type, by_encoding, alone_unlimited}
 use Rattle.measures.specs.Heads.{leaf_of}
 use Rattle.measures.proofs.ByKind.{leaf_as, varint_as, zigzag_as}
 use Rattle.image.specs.declared.Frame.{Frame}

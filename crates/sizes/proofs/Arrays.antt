@@ -12,8 +12,8 @@ use Rattle.sizes.specs.Elements.{Element, item}
 use Rattle.sizes.specs.Sizes.{Layout, Size, largest, limit}
 use Rattle.sizes.specs.Names.{content_in, content_of}
 use Rattle.sizes.specs.Lengths.{Length, of_named, of_wrap, of_elements, most_elements, Counted, of_count, Several, no_element, one_element, ElementLength, of_item, of_terminal, SlotLength, AtMost, Encloses}
-use Rattle.sizes.specs.Laws.{sums_of}
-use Rattle.sizes.specs.Rules.{wrap_is, item_is, counted_is, elements_is}
+use Rattle.sizes.proofs.Laws.{sums_of}
+use Rattle.sizes.proofs.Rules.{wrap_is, item_is, counted_is, elements_is}
 use Rattle.sizes.specs.Examples.{all, a_newtype, slot}
 
 -- a count below 128 takes 8 bits

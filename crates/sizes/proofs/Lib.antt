@@ -1,3 +1,17 @@
+pub mod Limits
+pub mod Steps
+pub mod Laws
+pub mod Rules
+pub mod Sound
+pub mod Rank
+pub mod Fuel
+pub mod Enclosure
+pub mod Steady
+pub mod Turns
+pub mod Fixed
+pub mod Table
+pub mod Whole
+pub mod Changed
 pub mod BitLength
 pub mod Mark
 pub mod Provisos

@@ -9,7 +9,7 @@ use lib.Dec.{eqb}
 use borrow.Author.Tests.{eqb-true}
 use Rattle.slot.specs.Field.{Field}
 use Rattle.sizes.specs.Sizes.{Layout, Size, Fixed, Bounded, Open, Worked, Sized, Over, smallest, largest, variable, both, limit, limited, limited_sum, then, widened, raised, Resolver, mark, add_variants, union_size}
-use Rattle.sizes.specs.Steps.{sized_inj, variant_added, fields_small}
+use Rattle.sizes.proofs.Steps.{sized_inj, variant_added, fields_small}
 
 -- ## The mark does not stay
 

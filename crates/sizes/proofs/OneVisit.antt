@@ -21,10 +21,11 @@ use Rattle.sizes.specs.Check.{brought, body_size, own_size, accepted, turn}
 use Rattle.sizes.specs.Lengths.{parts_of, content_parts, Reaches, at_once, by_way_of, itself, reached, MadeOf, LeadsTo, NoLoop, NothingLeadsBack}
 use Rattle.sizes.specs.Demand.{Declared, BringsNone, Sizable, is_message, is_union}
 use Rattle.sizes.specs.Reached.{is_sizable, part_leads, slot_count, part_ways, reached_from, is_reached, leading_back, LeadsBack}
-use Rattle.sizes.specs.Rank.{from_from, terminal_part, part_below, none_missing}
-use Rattle.sizes.specs.Fuel.{Agree, content_agree}
-use Rattle.sizes.specs.Steady.{plain_size, own_plain, plain_obeys}
-use Rattle.sizes.specs.Turns.{Turned, passed, stored, turned, store_cases, own_some}
+use Rattle.sizes.proofs.Rank.{from_from, terminal_part, part_below, none_missing}
+use Rattle.sizes.proofs.Fuel.{Agree, content_agree}
+use Rattle.sizes.specs.Steady.{plain_size}
+use Rattle.sizes.proofs.Steady.{own_plain, plain_obeys}
+use Rattle.sizes.proofs.Turns.{Turned, passed, stored, turned, store_cases, own_some}
 
 -- ## Ways
 

@@ -14,9 +14,9 @@ use Rattle.sizes.specs.Names.{content_in, content_of, State, content_size, name_
 use Rattle.sizes.specs.Check.{brought, body_size, own_size, store, accepted, storing, turn, onward, turns, check_sizes, slot_row, rows_from, table_of, size_at}
 use Rattle.sizes.specs.Lengths.{of_primitive, of_named, unlimited, plain, FieldsLength, no_field, one_field, of_message, SlotLength, type_parts, encoded_parts, own_parts, fields_parts, content_parts, parts_of, Reaches, at_once, by_way_of, NothingLeadsBack, Encloses}
 use Rattle.sizes.specs.Demand.{is_message, Declared, Attained, BringsNone}
-use Rattle.sizes.specs.Laws.{Plus}
-use Rattle.sizes.specs.Rules.{primitive_is, named_is, plain_is, unlimited_is, FieldLength, message_is}
-use Rattle.sizes.specs.Enclosure.{own_enclosed}
+use Rattle.sizes.proofs.Laws.{Plus}
+use Rattle.sizes.proofs.Rules.{primitive_is, named_is, plain_is, unlimited_is, FieldLength, message_is}
+use Rattle.sizes.proofs.Enclosure.{own_enclosed}
 use Rattle.sizes.specs.Examples.{all, declaring, a_field, each, a_message, of, u8, slot, wrong}
 
 -- ## The clauses of `Demand3`, each with one proviso dropped

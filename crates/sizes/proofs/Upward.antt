@@ -19,10 +19,11 @@ use Rattle.sizes.specs.Check.{accepted, check_sizes}
 use Rattle.sizes.specs.Lengths.{leaf_parts, wrap_parts, type_parts, encoded_parts, element_parts, own_parts, field_parts, fields_parts, variants_parts, content_parts, parts_of, at_once, by_way_of, itself, reached, LeadsTo, MadeOf, NothingLeadsBack}
 use Rattle.sizes.specs.Demand.{BringsNone}
 use Rattle.sizes.specs.Reached.{is_reached, leading_back}
-use Rattle.sizes.specs.Steps.{then_made, field_added, variant_added}
-use Rattle.sizes.specs.Rank.{no_loop_part}
-use Rattle.sizes.specs.Steady.{plain_size, plain_obeys}
-use Rattle.sizes.specs.Turns.{last_turn, at_last, all_plain}
+use Rattle.sizes.proofs.Steps.{then_made, field_added, variant_added}
+use Rattle.sizes.proofs.Rank.{no_loop_part}
+use Rattle.sizes.specs.Steady.{plain_size}
+use Rattle.sizes.proofs.Steady.{plain_obeys}
+use Rattle.sizes.proofs.Turns.{last_turn, at_last, all_plain}
 use Rattle.sizes.specs.Changed.{Each}
 use Rattle.sizes.proofs.OneVisit.{reached_iff, nothing_back}
 

@@ -279,11 +279,11 @@ retired_on_board_holds = refl
 -- ## What an array really takes
 
 -- a message of one field with a limit
-abbrev limited_to_lem : ℕ → Encoding → Tree → Slot
-limited_to_lem n e t = a_message Stored.none (record { field_name = 0; encoding = e; type = t; limit = n } ∷ [])
+abbrev limited_to : ℕ → Encoding → Tree → Slot
+limited_to n e t = a_message Stored.none (record { field_name = 0; encoding = e; type = t; limit = n } ∷ [])
 
-abbrev up_to_lem : ℕ → Tree → Slot
-up_to_lem n t = limited_to_lem n default t
+abbrev up_to : ℕ → Tree → Slot
+up_to n t = limited_to n default t
 
 abbrev no_bits : Tree
 no_bits = fixed_array bool 0
@@ -294,32 +294,32 @@ bools n = fixed_array bool n
 abbrev pub limit_lines : List Line
 limit_lines =
     -- elements of no bits: the groups of the limit count, and 8..8 is not Fixed
-    shows (all (up_to_lem 127 (wrap array no_bits) ∷ up_to_lem 128 (wrap array no_bits) ∷ [])) (row 2 8 8 ++ row 2 8 16)
+    shows (all (up_to 127 (wrap array no_bits) ∷ up_to 128 (wrap array no_bits) ∷ [])) (row 2 8 8 ++ row 2 8 16)
     -- each of the three kinds, and Delta down to Default
-    ∷ shows (all (up_to_lem 3 (wrap set_of u8) ∷ up_to_lem 3 (pair map_of u8 bool) ∷ limited_to_lem 3 (delta (delta default)) (wrap array u16) ∷ []))
+    ∷ shows (all (up_to 3 (wrap set_of u8) ∷ up_to 3 (pair map_of u8 bool) ∷ limited_to 3 (delta (delta default)) (wrap array u16) ∷ []))
     (row 2 8 32 ++ row 2 8 35 ++ row 2 8 56)
     -- 0 is no limit; an element without largest has none
-    ∷ shows (all (up_to_lem 0 (wrap array u8) ∷ up_to_lem 2 (wrap array string) ∷ up_to_lem 2 (pair map_of u8 string) ∷ [])) (row 3 8 0 ++ row 3 8 0 ++ row 3 8 0)
+    ∷ shows (all (up_to 0 (wrap array u8) ∷ up_to 2 (wrap array string) ∷ up_to 2 (pair map_of u8 string) ∷ [])) (row 3 8 0 ++ row 3 8 0 ++ row 3 8 0)
     -- the inner of two arrays has no limit
-    ∷ shows (all (up_to_lem 3 (wrap array (wrap array u8)) ∷ [])) (row 3 8 0)
+    ∷ shows (all (up_to 3 (wrap array (wrap array u8)) ∷ [])) (row 3 8 0)
     -- a limit is ignored on U8, under Optional, through a newtype, under Varint and ZigZag
     ∷ shows
-    (all (up_to_lem 2 u8 ∷ up_to_lem 2 (wrap optional (wrap array u8)) ∷ up_to_lem 2 (slot 3) ∷ a_newtype (wrap array u8) ∷ limited_to_lem 2 varint (wrap array u8) ∷ limited_to_lem 2 (delta zig_zag) (wrap array u8) ∷ []))
+    (all (up_to 2 u8 ∷ up_to 2 (wrap optional (wrap array u8)) ∷ up_to 2 (slot 3) ∷ a_newtype (wrap array u8) ∷ limited_to 2 varint (wrap array u8) ∷ limited_to 2 (delta zig_zag) (wrap array u8) ∷ []))
     (row 1 8 8 ++ row 3 1 0 ++ row 3 8 0 ++ row 0 0 0 ++ row 2 8 80 ++ row 2 8 80)
     -- A { Array<A> limit 2 }: what is being worked out has no largest
-    ∷ shows (all (up_to_lem 2 (wrap array (slot 0)) ∷ [])) (row 3 8 0)
+    ∷ shows (all (up_to 2 (wrap array (slot 0)) ∷ [])) (row 3 8 0)
     -- the elements of an array without limit are not worked out, those of a limited one are
-    ∷ shows (all (up_to_lem 0 (wrap array over) ∷ [])) (row 3 8 0)
-    ∷ refuses (all (up_to_lem 1 (wrap array over) ∷ [])) 14 0
+    ∷ shows (all (up_to 0 (wrap array over) ∷ [])) (row 3 8 0)
+    ∷ refuses (all (up_to 1 (wrap array over) ∷ [])) 14 0
     -- a map's value is worked out though its key has no largest
-    ∷ refuses (all (up_to_lem 2 (pair map_of string over) ∷ [])) 14 0
+    ∷ refuses (all (up_to 2 (pair map_of string over) ∷ [])) 14 0
     -- largest key and largest value are a sum, made before the product
-    ∷ refuses (all (up_to_lem 4 (pair map_of (bools (2 ^ 62)) (bools (2 ^ 62))) ∷ [])) 11 0
+    ∷ refuses (all (up_to 4 (pair map_of (bools (2 ^ 62)) (bools (2 ^ 62))) ∷ [])) 11 0
     -- the product, and then the sum, to the last bit
-    ∷ shows (all (up_to_lem (2 ^ 32 - 1) (wrap array (bools (2 ^ 31))) ∷ [])) (row 2 8 (2 ^ 63 - 2 ^ 31 + 40))
-    ∷ refuses (all (up_to_lem (2 ^ 32 - 1) (wrap array (bools (2 ^ 31 + 1))) ∷ [])) 14 0
-    ∷ shows (all (up_to_lem 1 (wrap array (bools (2 ^ 63 - 9))) ∷ [])) (row 2 8 (2 ^ 63 - 1))
-    ∷ refuses (all (up_to_lem 1 (wrap array (bools (2 ^ 63 - 8))) ∷ [])) 11 0
+    ∷ shows (all (up_to (2 ^ 32 - 1) (wrap array (bools (2 ^ 31))) ∷ [])) (row 2 8 (2 ^ 63 - 2 ^ 31 + 40))
+    ∷ refuses (all (up_to (2 ^ 32 - 1) (wrap array (bools (2 ^ 31 + 1))) ∷ [])) 14 0
+    ∷ shows (all (up_to 1 (wrap array (bools (2 ^ 63 - 9))) ∷ [])) (row 2 8 (2 ^ 63 - 1))
+    ∷ refuses (all (up_to 1 (wrap array (bools (2 ^ 63 - 8))) ∷ [])) 11 0
     ∷ []
 
 pub limits_hold : answered Packed limit_lines ≡ said limit_lines
@@ -329,9 +329,9 @@ limits_hold = refl
 -- on the head board the field is rounded, not its elements: 8..11 is 8..16
 abbrev pub limits_on_board : List Line
 limits_on_board =
-    shows (all (up_to_lem 3 (wrap array bool) ∷ [])) (row 2 8 16)
-    ∷ shows (all (up_to_lem 8 (wrap array bool) ∷ [])) (row 2 8 16)
-    ∷ refuses (all (up_to_lem 1 (wrap array (bools (2 ^ 63 - 9))) ∷ [])) 11 0
+    shows (all (up_to 3 (wrap array bool) ∷ [])) (row 2 8 16)
+    ∷ shows (all (up_to 8 (wrap array bool) ∷ [])) (row 2 8 16)
+    ∷ refuses (all (up_to 1 (wrap array (bools (2 ^ 63 - 9))) ∷ [])) 11 0
     ∷ []
 
 pub limits_on_board_hold : answered Aligned limits_on_board ≡ said limits_on_board

@@ -27,8 +27,8 @@ abbrev loops : Schema → (slot visits : ℕ) → Case
 loops S i n = record { of = S; back = Lowest.At i; visits = n }
 
 -- a message of one field with a limit
-abbrev up_to_lem : ℕ → Tree → Slot
-up_to_lem n t = a_message Stored.none (record { field_name = 0; encoding = default; type = t; limit = n } ∷ [])
+abbrev up_to : ℕ → Tree → Slot
+up_to n t = a_message Stored.none (record { field_name = 0; encoding = default; type = t; limit = n } ∷ [])
 
 -- A { B, B }, B { C, C }, C { U8, U8 }
 abbrev doubling : List ℕ → Schema
@@ -52,12 +52,12 @@ cases =
     ∷ free (all (encoded (delta default) (wrap optional u16) ∷ [])) 2
     -- elements count where a limit bears on them
     ∷ free (all (of (wrap array (wrap optional u8) ∷ pair map_of u8 u16 ∷ []) ∷ [])) 2
-    ∷ free (all (up_to_lem 2 (wrap array (wrap optional u8)) ∷ up_to_lem 2 (pair map_of u8 u16) ∷ up_to_lem 2 (wrap vec3 u8) ∷ [])) 8
+    ∷ free (all (up_to 2 (wrap array (wrap optional u8)) ∷ up_to 2 (pair map_of u8 u16) ∷ up_to 2 (wrap vec3 u8) ∷ [])) 8
     -- a union's variants
     ∷ free (all (a_union (each (u8 ∷ []) ∷ [] ∷ each (string ∷ wrap vec3 u8 ∷ []) ∷ []) ∷ [])) 4
     -- A { [A; 0] }, and A { Array<A> } with limit 2 and without
     ∷ loops (all (of (fixed_array (slot 0) 0 ∷ []) ∷ [])) 0 2
-    ∷ loops (all (up_to_lem 2 (wrap array (slot 0)) ∷ [])) 0 2
+    ∷ loops (all (up_to 2 (wrap array (slot 0)) ∷ [])) 0 2
     ∷ free (all (of (wrap array (slot 0) ∷ []) ∷ [])) 1
     -- a loop that no declared message reaches is none, though a newtype on it is declared
     ∷ free (apart (0 ∷ 1 ∷ []) u8) 1

@@ -18,7 +18,7 @@ use Rattle.sizes.specs.Sizes.{refusal_of}
 use Rattle.sizes.specs.Check.{Checked, check_sizes, stored_slot, table_of}
 use Rattle.sizes.specs.Check as check
 use Rattle.sizes.specs.Demand.{Demand3}
-use Rattle.sizes.specs.Whole.{demand3}
+use Rattle.sizes.proofs.Whole.{demand3}
 use Rattle.rows.proofs.Table.{table_length}
 use Rattle.wiresize.proofs.Ends.{names_obey}
 use Rattle.table.specs.Fitted.{fitted}

@@ -25,7 +25,8 @@ use Rattle.sizes.specs.Widths.{highest, top_of}
 use Rattle.sizes.specs.Names.{State}
 use Rattle.sizes.specs.Check.{Checked, is_there, stored_slot, check_sizes}
 use Rattle.sizes.specs.Check as check
-use Rattle.sizes.specs.Changed.{top_live, Unlimited, Keeps, brings_changed, sizes_changed, table_changed, moved_keeps, bare_keeps}
+use Rattle.sizes.specs.Changed.{Unlimited, Keeps}
+use Rattle.sizes.proofs.Changed.{top_live, brings_changed, sizes_changed, table_changed, moved_keeps, bare_keeps}
 use Rattle.turns.specs.Sizing.{layout_of, gated, verdict, worked_in, sizing_in, sizing_of, rows_in, on_sized, table_by, sizes_of}
 use Rattle.turns.specs.declared.Entry.{Entry}
 use Rattle.turns.specs.declared.Entry.TheVariants.{Ordinary, HeadBoard}

@@ -1,5 +1,5 @@
 // Parts of an image, for the layers above: a slot's kind with what it holds, and where its fields and types stand.
-// The functions over the view are thin and proved by hand: the work is done on the two slices.
+// The functions over the view are thin: the work is done on the two slices.
 #![tactic(auto)]
 
 ghost use Rattle.std.specs.Prelude.{◌≡◌};

@@ -24,7 +24,7 @@ use Rattle.sizes.specs.Elements.{count_of}
 use Rattle.sizes.specs.declared.Layout.{Layout}
 use Rattle.sizes.specs.Names.{content_in, content_of, NamesObey}
 use Rattle.sizes.specs.Lengths.{leaf_parts, wrap_parts, type_parts, terminal_parts, terminals_of, Reaches, at_once, by_way_of, NewtypesEnd}
-use Rattle.sizes.specs.Fuel as fuel
+use Rattle.sizes.proofs.Fuel as fuel
 
 leaf_slots_lem : (l : Leaf) → leaf_parts l ≡ leaf_slots l
 leaf_slots_lem (primitive p) = refl

@@ -14,7 +14,7 @@ use Rattle.sizes.specs.declared.Operation.{Operation}
 use Rattle.sizes.specs.declared.Worked.{Worked}
 use Rattle.sizes.specs.declared.Worked.TheVariants.{Sized, Over}
 use Rattle.sizes.specs.Sizes.{then, limited_sum, laid, Resolver, field_alone, field_size, added, add_fields, fields_size}
-use Rattle.sizes.specs.Steps.{then_made}
+use Rattle.sizes.proofs.Steps.{then_made}
 use Rattle.total.specs.Totals.{size_of, total_of, sum_of, total_after, step_of}
 use Rattle.total.specs.declared.Step.{Step}
 use Rattle.total.proofs.Totals.{size_back, stepped, stopped}

@@ -15,8 +15,8 @@ use Rattle.reader.specs.Reading.{schema_of}
 use Rattle.sizes.specs.Elements.{count_of}
 use Rattle.sizes.specs.Names.{terminal, content_of, Working, inserted}
 use Rattle.sizes.specs.Lengths.{wrap_parts, type_parts}
-use Rattle.sizes.specs.Rank.{unmarked_below, unmarked_fresh, above, above_append, terminal_rank, type_rank, type_rank_name, type_rank_bound, terminal_rank_bound, terminal_rank_is}
-use Rattle.sizes.specs.Fuel.{inserted_is}
+use Rattle.sizes.proofs.Rank.{unmarked_below, unmarked_fresh, above, above_append, terminal_rank, type_rank, type_rank_name, type_rank_bound, terminal_rank_bound, terminal_rank_is}
+use Rattle.sizes.proofs.Fuel.{inserted_is}
 use Rattle.wiresize.specs.Asked.{marked, Ready}
 use Rattle.wiresize.proofs.Ends.{newtypes_end}
 

@@ -32,7 +32,7 @@ use Rattle.sizes.specs.Sizes.{limit, limited, limited_product, Resolver, type_si
 use Rattle.sizes.specs.Widths.{top_of, bytes_to, flags_bytes, flags_bytes_at}
 use Rattle.sizes.specs.Names.{terminal, anything, content_in, content_of, State, Working, inserted, or_else, content_size, name_rule, name_size}
 use Rattle.sizes.specs.Check.{size_row, slot_row}
-use Rattle.sizes.specs.Fuel.{name_obeys, inserted_is}
+use Rattle.sizes.proofs.Fuel.{name_obeys, inserted_is}
 use Rattle.wiresize.specs.Rows.{row_by, row_at, RowsHold}
 use Rattle.wiresize.specs.Asked.{marked, Ready, resolver, Meant, Names}
 use Rattle.wiresize.specs.declared.Row.{Row}

@@ -12,7 +12,7 @@ use Rattle.reader.specs.Promise.{Promise}
 use Rattle.reader.specs.Reading.{schema_of}
 use Rattle.sizes.specs.Names.{content_of}
 use Rattle.sizes.specs.Nodes.{content_nodes}
-use Rattle.sizes.specs.Rank.{none_missing}
+use Rattle.sizes.proofs.Rank.{none_missing}
 use Rattle.sizes.proofs.Upward.{NoGeneric, EachType, EveryType}
 use Rattle.settling.proofs.Nodes.{slot_nodes, slot_plain}
 

@@ -14,7 +14,7 @@ use Rattle.sizes.specs.declared.Worked.TheVariants.{Sized, Over}
 use Rattle.sizes.specs.Sizes.{fields_size, union_size}
 use Rattle.sizes.specs.Names.{content_in, content_of, State, Working, nothing, inserted, name_size}
 use Rattle.sizes.specs.Check.{body_size, own_size}
-use Rattle.sizes.specs.Fuel.{inserted_is}
+use Rattle.sizes.proofs.Fuel.{inserted_is}
 use Rattle.wiresize.specs.Asked.{marked, resolver, turn_of}
 use Rattle.wiresize.specs.Asked.{turned_as}
 use Rattle.wiresize.specs.declared.Turned.{Turned}

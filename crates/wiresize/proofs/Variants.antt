@@ -16,7 +16,7 @@ use Rattle.sizes.specs.declared.Operation.{Operation}
 use Rattle.sizes.specs.declared.Worked.{Worked}
 use Rattle.sizes.specs.declared.Worked.TheVariants.{Sized, Over}
 use Rattle.sizes.specs.Sizes.{then, limited_sum, Resolver, fields_size, mark, add_variants, union_size, widened, raised}
-use Rattle.sizes.specs.Steps.{over_not}
+use Rattle.sizes.proofs.Steps.{over_not}
 use Rattle.total.specs.Totals.{size_of, total_of}
 use Rattle.wiresize.specs.declared.Varied.{Varied}
 use Rattle.wiresize.specs.Asked.{WorksOut, Varies, extremes_in, last_in}

@@ -12,7 +12,7 @@ use Rattle.sizes.specs.Elements.{at_most_one, any_number, exactly, count_of, Ele
 use Rattle.sizes.specs.Sizes.{Layout, round_up, primitive_bits, semantic_bits, leaf_span, span_end, varint_end, zig_zag_end}
 use Rattle.sizes.specs.Names.{fields, variants, bits, terminal, content_of}
 use Rattle.sizes.specs.Lengths.{FixedOrAny, InSpan, Length, of_primitive, of_sub_byte, of_semantic, of_named, of_bits_inline, of_wrap, of_fixed_array, of_map, of_ok, of_err, WrapLength, absent, present, of_elements, of_copies, most_elements, Counted, of_count, Several, no_element, one_element, ElementLength, of_item, of_entry, OwnLength, unlimited, limited_to, EncodedLength, plain, of_varint, of_zig_zag, of_delta, FieldsLength, no_field, one_field, ContentLength, of_message, of_variant, of_no_variant, of_bits, of_terminal, SlotLength}
-use Rattle.sizes.specs.Laws.{RoundedTo, Plus, More, Sums, no_more, one_more, CountOf, Either}
+use Rattle.sizes.proofs.Laws.{RoundedTo, Plus, More, Sums, no_more, one_more, CountOf, Either}
 
 module _ (L : Layout) (S : Schema) where
   pub primitive_is : (p n : ℕ) → (n ≡ primitive_bits p) ↔ Length L S (leaf (primitive p)) n

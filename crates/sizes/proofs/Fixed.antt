@@ -12,8 +12,8 @@ use Rattle.sizes.specs.Sizes.{Layout, Size, Fixed, Bounded, Open, Sized, smalles
 use Rattle.sizes.specs.Names.{content_in, content_of, State, nothing, inserted, name_size}
 use Rattle.sizes.specs.Check.{body_size, own_size, accepted, check_sizes}
 use Rattle.sizes.specs.Demand.{Sizable, is_message, LastTurn, names_at, AllFixed, no_field, one_field}
-use Rattle.sizes.specs.Steps.{sized_inj, field_added}
-use Rattle.sizes.specs.Turns.{at_last}
+use Rattle.sizes.proofs.Steps.{sized_inj, field_added}
+use Rattle.sizes.proofs.Turns.{at_last}
 
 -- a sum is Fixed only if both are
 pub record BothFixed (s s' : Size) (b : ℕ) : Type 0 where

@@ -15,9 +15,9 @@ use Rattle.sizes.specs.Elements.{Count, at_most_one, any_number, exactly, count_
 use Rattle.sizes.specs.Sizes.{Layout, Packed, Aligned, to_bytes, round_up, rounded, laid, Size, Fixed, Bounded, Open, Sum, Product, Worked, Sized, smallest, largest, variable, both, limited_sum, limited_product, then, semantic_bits, fixed_or_open, Resolver, leaf_size, optional_size, multiplied, without_largest, widened, raised, wrap_size, type_size, varint_end, zig_zag_end, encoded_size, entry_size, element_size, up_to, elements_size, field_size, added, add_fields, fields_size, mark, add_variants, union_size}
 use Rattle.sizes.specs.Names.{Content, fields, variants, bits, terminal, anything, or_else, content_size}
 use Rattle.sizes.specs.Lengths.{FixedOrAny, Length, of_qualified, of_generic, WrapLength, most_elements, Counted, ElementLength, OwnLength, EncodedLength, FieldsLength, ContentLength, of_anything, wrap_parts, type_parts, encoded_parts, element_parts, own_parts, field_parts, fields_parts, variants_parts, content_parts, SlotLength}
-use Rattle.sizes.specs.Steps.{limited_kept, sized_inj, then_made, step_made, field_added, variant_added, fields_small, first_variant}
-use Rattle.sizes.specs.Laws.{RoundedTo, Rising, Plus, More, Sums, Either, Relation, Laws}
-use Rattle.sizes.specs.Rules.{primitive_is, sub_byte_is, semantic_is, bits_inline_is, optional_is, item_is, entry_is, counted_is, elements_is, exactly_is, fixed_array_is, map_is, result_is, wrap_is, plain_is, varint_is, zigzag_is, delta_is, unlimited_is, limited_is, FieldLength, no_field_is, one_field_is, fields_is, message_is, SomeVariant, no_variant_is, variants_is, none_left_is, one_variant_is, bits_is, terminal_is, varint_end_lem, zigzag_end}
+use Rattle.sizes.proofs.Steps.{limited_kept, sized_inj, then_made, step_made, field_added, variant_added, fields_small, first_variant}
+use Rattle.sizes.proofs.Laws.{RoundedTo, Rising, Plus, More, Sums, Either, Relation, Laws}
+use Rattle.sizes.proofs.Rules.{primitive_is, sub_byte_is, semantic_is, bits_inline_is, optional_is, item_is, entry_is, counted_is, elements_is, exactly_is, fixed_array_is, map_is, result_is, wrap_is, plain_is, varint_is, zigzag_is, delta_is, unlimited_is, limited_is, FieldLength, no_field_is, one_field_is, fields_is, message_is, SomeVariant, no_variant_is, variants_is, none_left_is, one_variant_is, bits_is, terminal_is, varint_end_lem, zigzag_end}
 
 -- between lengths and the ends of a size
 abbrev pub On : Relation → (ℕ → Type 0) → Size → Type 0

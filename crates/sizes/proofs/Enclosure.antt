@@ -9,10 +9,10 @@ use Rattle.sizes.specs.Sizes.{Layout, Size, Open, Sized, Resolver, fields_size, 
 use Rattle.sizes.specs.Names.{Content, fields, variants, bits, terminal, anything, content_of, State, Working, nothing, inserted, content_size, name_rule, name_within, enough, name_size}
 use Rattle.sizes.specs.Check.{body_size, own_size}
 use Rattle.sizes.specs.Lengths.{ContentLength, SlotLength, content_parts, Encloses, Trusted}
-use Rattle.sizes.specs.Steps.{sized_inj}
-use Rattle.sizes.specs.Laws.{Around, around}
-use Rattle.sizes.specs.Rules.{named_is}
-use Rattle.sizes.specs.Sound.{On, HoldsAt, sound_message, sound_union, sound_content}
+use Rattle.sizes.proofs.Steps.{sized_inj}
+use Rattle.sizes.proofs.Laws.{Around, around}
+use Rattle.sizes.proofs.Rules.{named_is}
+use Rattle.sizes.proofs.Sound.{On, HoldsAt, sound_message, sound_union, sound_content}
 
 encloses : (P : ℕ → Type 0) (s : Size) → On Around P s → Encloses P s
 encloses P s a = record {

@@ -14,9 +14,10 @@ use Rattle.sizes.specs.Names.{content_in, content_of, State, nothing, inserted, 
 use Rattle.sizes.specs.Check.{brought, body_size, own_size, store, Checked, accepted, refused, storing, turn, onward, turns, check_sizes}
 use Rattle.sizes.specs.Lengths.{SlotLength, NothingLeadsBack, Encloses, Trusted}
 use Rattle.sizes.specs.Demand.{Sizable, is_message, is_union, Declared, Attained, BringsNone, LastTurn}
-use Rattle.sizes.specs.Enclosure.{own_enclosed}
-use Rattle.sizes.specs.Steady.{plain_size, own_plain, plain_attained}
-use Rattle.sizes.specs.Rank.{from_from}
+use Rattle.sizes.proofs.Enclosure.{own_enclosed}
+use Rattle.sizes.specs.Steady.{plain_size}
+use Rattle.sizes.proofs.Steady.{own_plain, plain_attained}
+use Rattle.sizes.proofs.Rank.{from_from}
 
 -- ## One turn
 

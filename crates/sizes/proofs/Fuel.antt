@@ -21,7 +21,7 @@ use Rattle.sizes.specs.Sizes.{Layout, laid, Size, Fixed, Bounded, Open, Worked, 
 use Rattle.sizes.specs.Names.{Content, fields, variants, bits, terminal, anything, content_of, State, Working, inserted, or_else, content_size, name_rule, name_within, enough, name_size, GoesByRule, NamesObey}
 use Rattle.sizes.specs.Check.{body_size}
 use Rattle.sizes.specs.Lengths.{wrap_parts, type_parts, encoded_parts, element_parts, own_parts, field_parts, fields_parts, variants_parts, content_parts, terminal_parts, terminals_of, NewtypesEnd}
-use Rattle.sizes.specs.Rank.{unmarked_below, unmarked_all, unmarked_fresh, part_below, terminal_rank, terminal_rank_lem, terminal_rank_bound}
+use Rattle.sizes.proofs.Rank.{unmarked_below, unmarked_all, unmarked_fresh, part_below, terminal_rank, terminal_rank_lem, terminal_rank_bound}
 
 -- ## Two resolvers that agree on the parts of a thing give it one size
 

@@ -6,9 +6,9 @@ use Rattle.sizes.specs.Sizes.{Layout}
 use Rattle.sizes.specs.Names.{State}
 use Rattle.sizes.specs.Check.{accepted, check_sizes, table_of}
 use Rattle.sizes.specs.Demand.{Sizable, is_message, Demand3}
-use Rattle.sizes.specs.Turns.{at_last, last_turn, all_enclosed, all_attained}
-use Rattle.sizes.specs.Fixed.{fixed_when_lem}
-use Rattle.sizes.specs.Table.{table_entry}
+use Rattle.sizes.proofs.Turns.{at_last, last_turn, all_enclosed, all_attained}
+use Rattle.sizes.proofs.Fixed.{fixed_when_lem}
+use Rattle.sizes.proofs.Table.{table_entry}
 
 -- of the table after the check, whatever stands in the places left over
 pub demand3 : (L : Layout) (S : Schema) (st : State) → check_sizes L S ≡ accepted st → (rest : List ℕ) →
