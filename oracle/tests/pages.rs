@@ -36,12 +36,12 @@ fn all_files() -> Vec<PathBuf> {
     found
 }
 
-/// The pages; `docs/CHANGES.md` tells of what is gone too.
+/// The pages; `docs/CHANGES.md` and `docs/PORT.md` tell of what is gone too.
 fn pages() -> Vec<(String, String)> {
     let mut pages = vec!["README.md".to_string(), "oracle/README.md".to_string()];
     for entry in fs::read_dir(root().join("docs")).expect("docs").flatten() {
         let name = entry.file_name().into_string().expect("a plain name");
-        if name != "CHANGES.md" {
+        if name != "CHANGES.md" && name != "PORT.md" {
             pages.push(format!("docs/{name}"));
         }
     }
