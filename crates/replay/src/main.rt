@@ -6,7 +6,9 @@
 ghost use Rattle.std.specs.Prelude.{◌<◌, ◌≤◌, length};
 ghost use Rattle.replay.specs.Compared.{count_of, Compared};
 
-use libc::STDOUT_FILENO;
+use std::fs::File;
+use std::io;
+use std::io::Read;
 
 // What a file records of an image: how it is read, or the text that is written for it.
 #[derive(Clone, Copy)]
@@ -53,24 +55,39 @@ fn number8(b: [u8; 8]) -> u64 {
         + wide(b[7]) * 72057594037927936
 }
 
-fn read4(fd: i32) -> u64 {
+// Reads until the buffer is full, the file ends or a read fails. Answers how many bytes it put at the front.
+fn read_full<R: Read>(input: &mut R, buf: &mut [u8]) -> usize
+    ensures { result ≤ length buf.new }
+{
+    let mut done: usize = 0;
+    while done < buf.len() {
+        match input.read(&mut buf[done..]) {
+            Ok(0) => break,
+            Ok(n) => done += n,
+            Err(_) => break,
+        }
+    }
+    done
+}
+
+fn read4<R: Read>(input: &mut R) -> u64 {
     let mut b = [0u8; 4];
-    io::read_full(fd, &mut b);
+    read_full(input, &mut b);
     number4(b)
 }
 
-fn read8(fd: i32) -> u64 {
+fn read8<R: Read>(input: &mut R) -> u64 {
     let mut b = [0u8; 8];
-    io::read_full(fd, &mut b);
+    read_full(input, &mut b);
     number8(b)
 }
 
 // A length, and as many bytes to the front of the buffer.
-fn read_part(fd: i32, buf: &mut [u8]) -> Part
+fn read_part<R: Read>(input: &mut R, buf: &mut [u8]) -> Part
     ensures { count_of result ≤ length buf.new }
 {
     let mut head = [0u8; 4];
-    let got = io::read_full(fd, &mut head);
+    let got = read_full(input, &mut head);
     if got == 0 {
         return Part::End;
     }
@@ -78,7 +95,7 @@ fn read_part(fd: i32, buf: &mut [u8]) -> Part
     if got < 4 || buf.len() < n {
         return Part::Short;
     }
-    let read = io::read_full(fd, &mut buf[0..n]);
+    let read = read_full(input, &mut buf[0..n]);
     if read != n {
         return Part::Short;
     }
@@ -86,27 +103,24 @@ fn read_part(fd: i32, buf: &mut [u8]) -> Part
 }
 
 // Are the recorded starts those of the table? All of them are read, so that the next image follows.
-fn same_starts(fd: i32, starts: &[usize], count: u64) -> bool {
+fn same_starts<R: Read>(input: &mut R, starts: &[usize], count: u64) -> bool {
     let mut same = true;
-    let mut i: usize = 0;
-    while i < starts.len() {
-        let expected = if (i as u64) < count { read4(fd) } else { 0 };
-        let start = starts[i] as u64;
-        if expected != start {
+    for (i, start) in starts.iter().enumerate() {
+        let expected = if (i as u64) < count { read4(input) } else { 0 };
+        if expected != *start as u64 {
             same = false;
         }
-        i += 1;
     }
     same
 }
 
-fn compare_reading(fd: i32, image: &[u8]) -> Outcome {
-    let number = read8(fd);
-    let value = read8(fd);
+fn compare_reading<R: Read>(input: &mut R, image: &[u8]) -> Outcome {
+    let number = read8(input);
+    let value = read8(input);
     let mut starts = [1usize; 512];
     let answer = vexil::vexil_read(image, &mut starts);
     let count = if number == 0 { value } else { 0 };
-    let same = same_starts(fd, &starts, count);
+    let same = same_starts(input, &starts, count);
     if answer.number != number {
         return Outcome::Differs;
     }
@@ -149,25 +163,25 @@ fn same_text(image: &[u8], text: &[u8]) -> Outcome
 {
     let mut out = [0u8; 180000];
     let used = report::report(image, &mut out);
-    if check::same(&out[0..used], text) {
+    if &out[0..used] == text {
         Outcome::Same(number_in(text))
     } else {
         Outcome::Differs
     }
 }
 
-fn compare_text(fd: i32, image: &[u8]) -> Outcome {
+fn compare_text<R: Read>(input: &mut R, image: &[u8]) -> Outcome {
     let mut text = [0u8; 180000];
-    match read_part(fd, &mut text) {
+    match read_part(input, &mut text) {
         Part::Bytes(n) => same_text(image, &text[0..n]),
         _ => Outcome::Short,
     }
 }
 
-fn compare(fd: i32, kind: Kind, image: &[u8]) -> Outcome {
+fn compare<R: Read>(input: &mut R, kind: Kind, image: &[u8]) -> Outcome {
     match kind {
-        Kind::Reading => compare_reading(fd, image),
-        Kind::Text => compare_text(fd, image),
+        Kind::Reading => compare_reading(input, image),
+        Kind::Text => compare_text(input, image),
     }
 }
 
@@ -186,105 +200,115 @@ fn tally(counts: &mut [u64], outcome: Outcome) {
     }
 }
 
-fn one(fd: i32, kind: Kind, image: &mut [u8], counts: &mut [u64]) -> Outcome {
-    match read_part(fd, image) {
+fn one<R: Read>(input: &mut R, kind: Kind, image: &mut [u8], counts: &mut [u64]) -> Outcome {
+    match read_part(input, image) {
         Part::End => Outcome::End,
         Part::Short => Outcome::Short,
         Part::Bytes(n) => {
-            let outcome = compare(fd, kind, &image[0..n]);
+            let outcome = compare(input, kind, &image[0..n]);
             tally(counts, outcome);
             outcome
         }
     }
 }
 
-fn line(word: &[u8], n: u64) {
-    io::write_all(STDOUT_FILENO, word);
-    io::print_decimal(STDOUT_FILENO, n);
-    io::write_all(STDOUT_FILENO, b"\n");
+fn line(rt: &impl Print, word: &[u8], n: u64) -> io::Result<()> {
+    rt.write_all(word)?;
+    println!(rt; "{n}")
 }
 
-fn note(word: &[u8], name: &[u8], n: u64) {
-    io::write_all(STDOUT_FILENO, word);
-    io::write_all(STDOUT_FILENO, name);
-    line(b": image ", n);
+fn note(rt: &impl Print, word: &[u8], name: &[u8], n: u64) -> io::Result<()> {
+    rt.write_all(word)?;
+    rt.write_all(name)?;
+    line(rt, b": image ", n)
 }
 
-fn differs(name: &[u8], n: u64) {
-    note(b"differs in ", name, n);
+fn differs(rt: &impl Print, name: &[u8], n: u64) -> io::Result<()> {
+    note(rt, b"differs in ", name, n)
 }
 
-fn short(name: &[u8], n: u64) {
-    note(b"cut off in ", name, n);
+fn short(rt: &impl Print, name: &[u8], n: u64) -> io::Result<()> {
+    note(rt, b"cut off in ", name, n)
 }
 
-fn totals(kind: Kind, done: u64, wrong: u64) {
+fn totals(rt: &impl Print, kind: Kind, done: u64, wrong: u64) -> io::Result<()> {
     match kind {
         Kind::Reading => {
-            line(b"images ", done);
-            line(b"differences ", wrong);
+            line(rt, b"images ", done)?;
+            line(rt, b"differences ", wrong)
         }
         Kind::Text => {
-            line(b"texts ", done);
-            line(b"differences in texts ", wrong);
+            line(rt, b"texts ", done)?;
+            line(rt, b"differences in texts ", wrong)
         }
     }
 }
 
-fn answered(word: &[u8], number: u64, count: u64) {
-    io::write_all(STDOUT_FILENO, word);
-    io::print_decimal(STDOUT_FILENO, number);
-    line(b": ", count);
+fn answered(rt: &impl Print, word: &[u8], number: u64, count: u64) -> io::Result<()> {
+    rt.write_all(word)?;
+    print!(rt; "{number}")?;
+    line(rt, b": ", count)
 }
 
-fn counted(word: &[u8], counts: &[u64]) {
-    let mut i: usize = 0;
-    while i < counts.len() {
-        answered(word, i as u64, counts[i]);
-        i += 1;
+fn counted(rt: &impl Print, word: &[u8], counts: &[u64]) -> io::Result<()> {
+    for (number, count) in counts.iter().enumerate() {
+        answered(rt, word, number as u64, *count)?;
     }
+    Ok(())
 }
 
-fn all(fd: i32, name: &[u8], kind: Kind, image: &mut [u8], counts: &mut [u64]) {
+fn all<R: Read>(
+    rt: &impl Print,
+    input: &mut R,
+    name: &[u8],
+    kind: Kind,
+    image: &mut [u8],
+    counts: &mut [u64],
+) -> io::Result<()> {
     let mut done: u64 = 0;
     let mut wrong: u64 = 0;
     while done < 1000000 {
-        match one(fd, kind, image, counts) {
+        match one(input, kind, image, counts) {
             Outcome::End => break,
             Outcome::Short => {
-                short(name, done);
+                short(rt, name, done)?;
                 wrong += 1;
                 break;
             }
             Outcome::Same(_) => {}
             Outcome::Differs => {
-                differs(name, done);
+                differs(rt, name, done)?;
                 wrong += 1;
             }
         }
         done += 1;
     }
-    totals(kind, done, wrong);
+    totals(rt, kind, done, wrong)
 }
 
 // No answer has a number above 14, and none of reading has one above 9.
-fn replay(name: &[u8], kind: Kind) {
-    let fd = os::open_read(name);
-    if fd < 0 {
-        os::fail(name);
-        return;
-    }
+fn replay(rt: &HostRuntime, name: &str, kind: Kind) -> io::Result<()> {
+    let mut file = match File::open(rt, name) {
+        Ok(file) => file,
+        Err(e) => return eprintln!(rt; "{name}: {e}"),
+    };
     let mut image = [0u8; 65537];
     let mut counts = [0u64; 15];
-    all(fd, name, kind, &mut image, &mut counts);
+    all(
+        rt,
+        &mut file,
+        name.as_bytes(),
+        kind,
+        &mut image,
+        &mut counts,
+    )?;
     match kind {
-        Kind::Reading => counted(b"answered ", &counts[0..10]),
-        Kind::Text => counted(b"texts answering ", &counts),
+        Kind::Reading => counted(rt, b"answered ", &counts[0..10]),
+        Kind::Text => counted(rt, b"texts answering ", &counts),
     }
-    libc::close(fd);
 }
 
-fn main() {
-    replay(b"answers", Kind::Reading);
-    replay(b"lines", Kind::Text);
+fn main(rt: HostRuntime) -> io::Result<()> {
+    replay(&rt, "answers", Kind::Reading)?;
+    replay(&rt, "lines", Kind::Text)
 }

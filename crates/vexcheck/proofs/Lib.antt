@@ -1,2 +1,4 @@
+pub mod Known
+pub mod Long
 pub mod Reading
 pub mod Writing

@@ -1,13 +1,14 @@
 // Reads an image from standard input, checks it, and writes its size table and findings, or why it is refused. No contract can
-// say what is read or written, so all that is decided between the two stands in functions of its own.
+// say what a file brings or takes, so all that is decided between the two stands in functions of its own: what reads goes by
+// any reader, and says what it makes of one whose bytes are known.
 #![tactic(auto)]
-
 
 ghost use Rattle.std.specs.Prelude.{◌+◌, ◌≤◌, ◌<◌, ◌^◌, ◌≡◌, length};
 ghost use Rattle.lines.specs.Lines.{Written};
-ghost use Rattle.vexcheck.specs.Input.{count_of, taken_of, step_of, text_of_input};
+ghost use Rattle.vexcheck.specs.Input.{count_of, taken_of, step_of, text_of_input, TookFrom, TookAll, AnswersInput};
 
-use libc::{STDIN_FILENO, STDOUT_FILENO};
+use std::io;
+use std::io::Read;
 
 // What standard input gave: so many bytes, or a read that failed.
 #[derive(Clone, Copy)]
@@ -24,21 +25,21 @@ enum Step {
 }
 
 // What a read means by its answer.
-fn outcome(got: isize, buf: &[u8]) -> Taken
+fn outcome(got: io::Result<usize>, buf: &[u8]) -> Taken
     ensures { result ≡ taken_of got (length buf.now) }
 {
-    if got < 0 {
-        return Taken::Failed;
+    match got {
+        Ok(n) => Taken::Bytes(n.min(buf.len())),
+        Err(_) => Taken::Failed,
     }
-    let n = io::count(got, buf);
-    Taken::Bytes(n)
 }
 
 // One read: how many bytes it put at the front of the buffer, or that it failed.
-fn take_some(buf: &mut [u8]) -> Taken
-    ensures { count_of result ≤ length buf.new }
+fn take_some<R: Read>(input: &mut R, buf: &mut [u8]) -> Taken
+    ensures within { count_of result ≤ length buf.new }
+    ensures bytes { TookFrom (R.remaining input.old) (R.remaining input.new) result buf.new }
 {
-    let got = libc::read(STDIN_FILENO, buf);
+    let got = input.read(buf);
     outcome(got, buf)
 }
 
@@ -59,12 +60,13 @@ fn after_read(at: usize, taken: Taken) -> Step
 }
 
 // Reads until the buffer is full, the input ends or a read fails.
-fn take_all(buf: &mut [u8]) -> Taken
-    ensures { count_of result ≤ length buf.new }
+fn take_all<R: Read>(input: &mut R, buf: &mut [u8]) -> Taken
+    ensures within { count_of result ≤ length buf.new }
+    ensures bytes { TookAll (R.remaining input.old) result buf.new }
 {
     let mut at: usize = 0;
     while at < buf.len() {
-        let taken = take_some(&mut buf[at..]);
+        let taken = take_some(input, &mut buf[at..]);
         match after_read(at, taken) {
             Step::On(next) => at = next,
             Step::Stop(all) => return all,
@@ -93,10 +95,19 @@ fn text<'a>(taken: Taken, image: &[u8], out: &'a mut [u8]) -> &'a [u8]
     &written[0..used]
 }
 
-// One byte more than an image may have, so that a longer one is refused and not cut.
-fn main() {
+// Reads an image and answers its text. The buffer for it has a place more than an image may have bytes, so that a longer one
+// is refused and not cut.
+fn answer<'a, R: Read>(input: &mut R, image: &mut [u8], out: &'a mut [u8]) -> &'a [u8]
+    requires places { 65536 < length image.old }
+    requires room { 180000 ≤ length out.old }
+    ensures { AnswersInput (R.remaining input.old) result.now }
+{
+    let taken = take_all(input, image);
+    text(taken, image, out)
+}
+
+fn main(rt: HostRuntime) -> io::Result<()> {
     let mut image = [0u8; 65537];
     let mut out = [0u8; 180000];
-    let taken = take_all(&mut image);
-    io::write_all(STDOUT_FILENO, text(taken, &image, &mut out));
+    rt.write_all(answer(&mut rt.stdin(), &mut image, &mut out))
 }
