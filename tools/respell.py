@@ -1,10 +1,10 @@
 #!/usr/bin/env python3
 """Gives the repository's own definitions, lemmas and fields the spelling of today's Rattle: words in snake case, types in camel case.
 
-usage: respell.py [--list] [--edits] [PATH]    at the top of the repository, right after port.py
+usage: respell.py [--list] [PATH]    at the top of the repository, right after port.py
 
 A name that a library declares keeps its spelling, and so do functions of src/, whose names were in snake case before. --list prints the
-table of names and changes nothing. --edits turns the pairs of must-fail/*.edit too. In comments and in pages only names in back quotes turn.
+table of names and changes nothing. In comments only names in back quotes turn. It was run once, in the commit PORTED of docs/PORT.md.
 """
 import os
 import re
