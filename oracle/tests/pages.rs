@@ -36,12 +36,15 @@ fn all_files() -> Vec<PathBuf> {
     found
 }
 
-/// The pages; `docs/CHANGES.md` and `docs/PORT.md` tell of what is gone too.
+/// These pages tell of what is gone too.
+const OF_OLD: [&str; 3] = ["CHANGES.md", "PORT.md", "DESIGN-PASS.md"];
+
+/// The pages that tell of what is there.
 fn pages() -> Vec<(String, String)> {
     let mut pages = vec!["README.md".to_string(), "oracle/README.md".to_string()];
     for entry in fs::read_dir(root().join("docs")).expect("docs").flatten() {
         let name = entry.file_name().into_string().expect("a plain name");
-        if name != "CHANGES.md" && name != "PORT.md" {
+        if name.ends_with(".md") && !OF_OLD.contains(&name.as_str()) {
             pages.push(format!("docs/{name}"));
         }
     }

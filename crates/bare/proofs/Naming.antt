@@ -3,8 +3,6 @@ use Prim.Native.Nat.{ℕ, ◌+◌}
 use mathlib.Core.Path.{◌≡◌, refl, sym, ap, ◌∙◌}
 use mathlib.Core.List.{List, [], ◌∷◌}
 use mathlib.Core.Bool.{true, false, false≢true}
-use types.Run.{OneOf}
-use denote.Enum.Declared.{tag_of}
 use Rattle.number.specs.Grammar.{done, read}
 use Rattle.number.specs.Answers.{next, follow}
 use Rattle.number.specs.declared.Next.{Next}
@@ -14,7 +12,6 @@ use Rattle.tree.specs.TreeAt.{head_at, shape}
 use Rattle.tree.specs.Short.{short_leaf}
 use Rattle.tree.specs.declared.Sort.TheVariants.{Resolved}
 use Rattle.tree.specs.declared.Head.{Head}
-use Rattle.tree.specs.contracts.Head as heads
 use Rattle.tree.proofs.Shapes.{parts}
 use Rattle.slot.specs.Field.{type_at, limit_at, Field, field_at}
 use Rattle.slot.specs.Short.{short_at}
@@ -27,7 +24,7 @@ use Rattle.loops.proofs.Marking.{led_none, led_as, leaf_none as no_slot, leaf_na
 use Rattle.view.specs.Take.{place_of}
 use Rattle.view.proofs.Taking.{placed}
 use Rattle.order.specs.Order.{bare_leaf, bare_type}
-use Rattle.order.proofs.Leading.{TypeAt, not_leaf}
+use Rattle.order.proofs.Leading.{TypeAt, no_leaf}
 use Rattle.bare.specs.Bare.{type_names}
 use Rattle.bare.specs.Steps.{Marks, Typed}
 use native.Mathlib.Omega.{arith}
@@ -72,12 +69,12 @@ module _ (names : ℕ) (s : List ℕ) (at row : ℕ) (m : List ℕ) where
             (led_as row (sym (ap type_names p.1)) (w p.0 p.2 p.4), p.5);
       }
 
-  pub type_other : (x : Head) → OneOf (1 ∷ 2 ∷ 3 ∷ 4 ∷ 5 ∷ []) (tag_of heads.the_type x) → shape (read (head_at Resolved names) s at) ≡ x
+  pub type_other : (x : Head) → ((k g v n : ℕ) → x ≡ Head.Leaf k g v n → ⊥) → shape (read (head_at Resolved names) s at) ≡ x
       → (a : Next) (n : ℕ) → a ≡ next (read (type_at names) s at) → n ≡ place_of a → Marks (type_at names) type_names s at row m m n
   type_other x h q a n f w =
       record {
         marked = λ t end e.
-            (led_none row (no_name t (not_leaf (λ j. false) names s at x h q t end e)), placed w (f ∙ ap next e));
+            (led_none row (no_name t (no_leaf (λ j. false) names s at x h q t end e)), placed w (f ∙ ap next e));
       }
 
   -- ## A field

@@ -21,30 +21,30 @@ use Rattle.bare.specs.Steps.{Marks}
 
 -- ## One field after another
 
--- `left` of `count` fields are still to come at p: what is marked so far and they are the whole run
-pub record Left (ed : Edition) (names : ℕ) (s : List ℕ) (row count at : ℕ) (x : List ℕ) (left p : ℕ) (y : List ℕ) : Type 0 where
+-- so many of `count` fields are marked, and the others still to come at p: together they are the whole run
+pub record Run (ed : Edition) (names : ℕ) (s : List ℕ) (row count at : ℕ) (x : List ℕ) (passed p : ℕ) (y : List ℕ) : Type 0 where
   pub whole : (fs : List Field) (end : ℕ) → read (many count (field_at ed names)) s at ≡ done fs end
-      → (gs : List Field) × (past : List ℕ) × (read (many left (field_at ed names)) s p ≡ done gs end) × Led x row past y × (past ++ fields_names gs ≡ fields_names fs)
+      → (gs : List Field) × (past : List ℕ) × (read (many (count - passed) (field_at ed names)) s p ≡ done gs end) × Led x row past y × (past ++ fields_names gs ≡ fields_names fs)
 
 module _ (ed : Edition) (names : ℕ) (s : List ℕ) (row : ℕ) where
   module _ (count at : ℕ) (x : List ℕ) where
-    pub left_start : Left ed names s row count at x count at x
-    left_start = record { whole = λ fs end e. (fs, [], e, led_none row refl, refl) }
+    pub run_start : Run ed names s row count at x 0 at x
+    run_start = let d : count - 0 ≡ count = omega arith in record { whole = λ fs end e. (fs, [], rw d e, led_none row refl, refl) }
 
-    module _ (left p : ℕ) (y : List ℕ) where
-      pub left_on : (n : ℕ) (z : List ℕ) → 0 < left → Marks (field_at ed names) (λ f. type_names f.type) s p row y z n → Left ed names s row count at x left p y
-          → Left ed names s row count at x (left - 1) n z
+    module _ (passed p : ℕ) (y : List ℕ) where
+      pub run_on : (n : ℕ) (z : List ℕ) → passed < count → Marks (field_at ed names) (λ f. type_names f.type) s p row y z n → Run ed names s row count at x passed p y
+          → Run ed names s row count at x (passed + 1) n z
       unfolding fields_names
-      left_on n z h i l =
+      run_on n z h i l =
           record {
             whole = λ fs end e.
-                let d : left ≡ suc (left - 1) = omega arith in
+                let d : count - passed ≡ suc (count - (passed + 1)) = omega arith in
                 let a = l.whole fs end e in
-                let w = front (field_at ed names) s (left - 1) p a.0 end (rw d at a.2) in
+                let w = front (field_at ed names) s (count - (passed + 1)) p a.0 end (rw d at a.2) in
                 let q = i.marked w.first w.middle w.here in (
                   w.others,
                   a.1 ++ type_names w.first.type,
-                  ap (read (many (left - 1) (field_at ed names)) s) q.1 ∙ w.rest,
+                  ap (read (many (count - (passed + 1)) (field_at ed names)) s) q.1 ∙ w.rest,
                   led_more row a.1 (type_names w.first.type) a.3 q.0,
                   append_assoc a.1 (type_names w.first.type) (fields_names w.others)
                       ∙ sym (ap (λ (u : List Field). a.1 ++ fields_names u) w.whole)
@@ -52,12 +52,12 @@ module _ (ed : Edition) (names : ℕ) (s : List ℕ) (row : ℕ) where
                 );
           }
 
-      pub left_end : left ≤ 0 → Left ed names s row count at x left p y → Marks (many count (field_at ed names)) fields_names s at row x y p
+      pub run_end : count ≤ passed → Run ed names s row count at x passed p y → Marks (many count (field_at ed names)) fields_names s at row x y p
       unfolding many read fields_names
-      left_end h l =
+      run_end h l =
           record {
             marked = λ fs end e.
-                let d : left ≡ 0 = omega arith in
+                let d : count - passed ≡ 0 = omega arith in
                 let a = l.whole fs end e in
                 let k = given (rw d at a.2) in
                 (led_as row (sym (append-nil a.1) ∙ ap (λ (u : List Field). a.1 ++ fields_names u) k.0 ∙ a.4) a.3, k.1);
@@ -106,9 +106,6 @@ module _ (ed : Edition) (names : ℕ) (s : List ℕ) (x : Slot) (kind body : ℕ
       go (impl y) q = refl
 
 -- ## All slots
-
-pub rows_start : (S : Schema) (m : List ℕ) → Filled m (bare_leads S) 0 m
-rows_start S m = turns_start (λ a b. a) (bare_leads S) m
 
 pub rows_on : (S : Schema) (m₀ m m' : List ℕ) (i : ℕ) → Filled m₀ (bare_leads S) i m → Led m i (bare_names (slot_of S i)) m' → Filled m₀ (bare_leads S) (i + 1) m'
 unfolding bare_leads

@@ -23,90 +23,89 @@ use slot::{Edition, Short};
 use tree::{Head, Sort};
 use view::Part;
 
+// What the fields and types of an image are read by.
+#[derive(Clone, Copy)]
+struct Source<'a> {
+    image: &'a [u8],
+    edition: Edition,
+    names: u64,
+}
+
+// Kind 3 is a name.
 fn mark_leaf(kind: u64, number: u64, rows: &mut [u64], row: usize)
     requires { row * 8 + 8 ≤ length rows.old }
     ensures { (l : Leaf) → leaf_kind l ≡ kind → leaf_number l ≡ number → Led rows.old row (leaf_slots l) rows.new }
 {
-    match kind {
-        3 => graph::mark(rows, row, number),
-        _ => {}
+    if kind == 3 {
+        graph::mark(rows, row, number);
     }
 }
 
-// A type: a bare name is marked, any other passed over.
-fn mark_type(image: &[u8], at: usize, names: u64, rows: &mut [u64], row: usize) -> usize
-    requires { row * 8 + 8 ≤ length rows.old }
-    ensures { Marks (type_at names) type_names image.now at row rows.old rows.new result }
-{
-    if let Head::Leaf(kind, _, number, next) = tree::read_head(image, at, Sort::Resolved, names) {
-        mark_leaf(kind, number, rows, row);
-        return next;
-    }
-    view::place_of(tree::read_tree(image, at, 32, Sort::Resolved, names))
-}
-
-// A long field, up to its limit.
-fn mark_long(image: &[u8], at: usize, names: u64, rows: &mut [u64], row: usize) -> usize
-    requires { row * 8 + 8 ≤ length rows.old }
-    ensures { Typed names image.now at row rows.old rows.new result }
-{
-    let name = number::skip_below(image, at, names);
-    let place = view::place_of(tree::skip_encoding(image, name));
-    mark_type(image, place, names, rows, row)
-}
-
-// A field, up to its limit. Its encoding does not matter.
-fn mark_typed(image: &[u8], at: usize, names: u64, rows: &mut [u64], row: usize) -> usize
-    requires { row * 8 + 8 ≤ length rows.old }
-    ensures { Typed names image.now at row rows.old rows.new result }
-{
-    match slot::short_field(image, at, names) {
-        Short::Is(_, kind, number) => {
+impl Source<'_> {
+    // A type: a bare name is marked, any other passed over.
+    fn mark_type(&self, at: usize, rows: &mut [u64], row: usize) -> usize
+        requires { row * 8 + 8 ≤ length rows.old }
+        ensures { Marks (type_at self.now.names) type_names self.now.image.now at row rows.old rows.new result }
+    {
+        if let Head::Leaf(kind, _, number, next) = tree::read_head(
+            self.image,
+            at,
+            Sort::Resolved,
+            self.names,
+        ) {
             mark_leaf(kind, number, rows, row);
-            at + 4
+            return next;
         }
-        Short::Other => mark_long(image, at, names, rows, row),
+        view::place_of(tree::read_tree(self.image, at, 32, Sort::Resolved, self.names))
     }
-}
 
-// A field with its limit.
-fn mark_field(
-    image: &[u8],
-    at: usize,
-    edition: Edition,
-    names: u64,
-    rows: &mut [u64],
-    row: usize,
-) -> usize
-    requires { row * 8 + 8 ≤ length rows.old }
-    ensures { Marks (field_at edition names) (λ x. type_names x.type) image.now at row rows.old rows.new result }
-{
-    let behind = mark_typed(image, at, names, rows, row);
-    view::place_of(slot::skip_limit(image, Next::At(behind), edition))
-}
-
-// Fields: their count, and the fields.
-fn mark_fields(
-    image: &[u8],
-    at: usize,
-    edition: Edition,
-    names: u64,
-    rows: &mut [u64],
-    row: usize,
-) -> usize
-    requires { row * 8 + 8 ≤ length rows.old }
-    ensures { Marks (fields_at edition names) fields_names image.now at row rows.old rows.new result }
-{
-    let Ranged::Value(count, first) = number::read_below(image, at, 65537) else {
-        return at;
-    };
-    let mut left = count;
-    let mut here = first;
-    while 0 < left {
-        here = mark_field(image, here, edition, names, rows, row);
-        left -= 1;
+    // A long field, up to its limit.
+    fn mark_long(&self, at: usize, rows: &mut [u64], row: usize) -> usize
+        requires { row * 8 + 8 ≤ length rows.old }
+        ensures { Typed self.now.names self.now.image.now at row rows.old rows.new result }
+    {
+        let name = number::skip_below(self.image, at, self.names);
+        let place = view::place_of(tree::skip_encoding(self.image, name));
+        self.mark_type(place, rows, row)
     }
-    here
+
+    // A field, up to its limit. Its encoding does not matter.
+    fn mark_typed(&self, at: usize, rows: &mut [u64], row: usize) -> usize
+        requires { row * 8 + 8 ≤ length rows.old }
+        ensures { Typed self.now.names self.now.image.now at row rows.old rows.new result }
+    {
+        match slot::short_field(self.image, at, self.names) {
+            Short::Is(_, kind, number) => {
+                mark_leaf(kind, number, rows, row);
+                at + 4
+            }
+            Short::Other => self.mark_long(at, rows, row),
+        }
+    }
+
+    // A field with its limit.
+    fn mark_field(&self, at: usize, rows: &mut [u64], row: usize) -> usize
+        requires { row * 8 + 8 ≤ length rows.old }
+        ensures { Marks (field_at self.now.edition self.now.names) (λ x. type_names x.type) self.now.image.now at row rows.old rows.new result }
+    {
+        let behind = self.mark_typed(at, rows, row);
+        view::place_of(slot::skip_limit(self.image, Next::At(behind), self.edition))
+    }
+
+    // Fields: their count, and the fields.
+    fn mark_fields(&self, at: usize, rows: &mut [u64], row: usize) -> usize
+        requires { row * 8 + 8 ≤ length rows.old }
+        ensures { Marks (fields_at self.now.edition self.now.names) fields_names self.now.image.now at row rows.old rows.new result }
+    {
+        let Ranged::Value(count, first) = number::read_below(self.image, at, 65537) else {
+            return at;
+        };
+        let mut here = first;
+        for _ in 0..count {
+            here = self.mark_field(here, rows, row);
+        }
+        here
+    }
 }
 
 // A slot: a message's fields stand inside it, a newtype's inner type at its start.
@@ -117,14 +116,18 @@ fn mark_slot(image: &[u8], starts: &[usize], frame: Frame, slot: usize, rows: &m
     let Part::At(kind, body) = view::slot_part(image, starts, slot) else {
         return;
     };
-    let edition = frame.edition;
+    let source = Source {
+        image,
+        edition: frame.edition,
+        names: frame.names,
+    };
     match kind {
         1 => {
             let place = view::slot_inside(image, starts, slot);
-            mark_fields(image, place, edition, frame.names, rows, slot);
+            source.mark_fields(place, rows, slot);
         }
         5 => {
-            mark_type(image, body, frame.names, rows, slot);
+            source.mark_type(body, rows, slot);
         }
         _ => {}
     }
@@ -135,11 +138,8 @@ fn mark_bare(image: &[u8], starts: &[usize], frame: Frame, rows: &mut [u64])
     requires { Promise image.now starts.now frame × (frame.slots * 8 ≤ length rows.old) }
     ensures { Filled rows.old (bare_leads (schema_of frame.edition image.now)) frame.slots rows.new }
 {
-    let count = frame.slots as usize;
-    let mut i: usize = 0;
-    while i < count {
-        mark_slot(image, starts, frame, i, rows);
-        i += 1;
+    for slot in 0..frame.slots as usize {
+        mark_slot(image, starts, frame, slot, rows);
     }
 }
 

@@ -2,7 +2,7 @@
 use Prim.Native.Nat.{ℕ, suc, ◌+◌, ◌-◌, ◌≤◌, ◌<◌, ◌^◌}
 use mathlib.Core.Path.{◌≡◌, refl, sym, ap, ap₂, ◌∙◌}
 use mathlib.Core.List.{List, [], ◌∷◌, ◌++◌, append-nil, append_assoc}
-use mathlib.Core.Bool.{Bool, true, false, cond}
+use mathlib.Core.Bool.{Bool, true, false, cond, not}
 use native.Mathlib.Omega.{arith}
 use native.Mathlib.Numerals.{add-one}
 use lib.ListN.{length, replicate, get_or}
@@ -62,6 +62,15 @@ field_parts_lem s names p x m l e v n t =
     let b = read_done (expression_at names) _ s n x m a in
     let g = given b.rest in
     (ap (λ (z : TraitField). z.field_name) g.0, b.here ∙ ap₂ (λ (z : TraitField) (w : ℕ). done z.type w) g.0 g.1)
+
+-- one finding more, unless the field was found
+pub found_not_added : (found : Bool) (y : Finding) {t u : List ℕ} {n r : ℕ} → not found ≡ false → u ≡ t → r ≡ n → Adds 1 t u n r (cond found [] (y ∷ []))
+found_not_added true y {t} {u} {n} e f g = rw (f, g) (adds_none 1 t n)
+found_not_added false y e f g = absurd (cc)
+
+pub lacking_added : (found : Bool) {x y : Finding} {t u v : List ℕ} {n r q : ℕ} → not found ≡ true → x ≡ y → v ≡ u → q ≡ r → Adds 1 t u n r (x ∷ []) → Adds 1 t v n q (cond found [] (y ∷ []))
+lacking_added true e f g h a = absurd (cc)
+lacking_added false e f g h a = rw (g, h, ← f) a
 
 pub own_is : {names : ℕ} {s : List ℕ} {d : ImplDef} {x : Impl} → ImplIs names s d x → (c i k : ℕ) → own_finding c i d k ≡ finding c i x.span k 0
 own_is e c i k = ap (λ (p : Span). finding c i p k 0) e.span
@@ -161,10 +170,10 @@ module _ (s starts : List ℕ) (f : Frame) (d : ImplDef) (e : TraitDef) (slot pl
       pub going_on : (found : Bool) → FoundIf f s e.type_params d.type_args d.type_arg_count m c v at found
           → (look_ups next : ℕ) → LooksUp f.names s at look_ups next
           → (after : List ℕ) → PlacesHold f.names s e.type_params d.type_args d.type_arg_count at places after
-          → (y : Finding) → y ≡ own_finding 4 slot d k → (table : List ℕ) (r : ℕ) → Adds 1 now table n r (cond found [] (y ∷ []))
+          → (table : List ℕ) (r : ℕ) → Adds 1 now table n r (cond found [] (own_finding 4 slot d k ∷ []))
           → (x : Targeted s starts f d e place held) → Going x before now places n p k → Going x before table after r next (k + 1)
       unfolding sought
-      going_on found w look_ups next l after hold-after y own table r add x g =
+      going_on found w look_ups next l after hold-after table r add x g =
           let a = next_field x g in
           let S = schema_of f.edition s in
           let i = x.paired.impl in
@@ -173,7 +182,7 @@ module _ (s starts : List ℕ) (f : Frame) (d : ImplDef) (e : TraitDef) (slot pl
           let there : found ≡ has_field x.message.fields a.field.field_name (meaning_of S ps i.arguments a.field.type) =
           w x.message.fields x.end (fields_read x) ps i.arguments asked.looks.bound a.field.type a.end a.type_read
           ∙ ap (λ (j : ℕ). has_field x.message.fields j (meaning_of S ps i.arguments a.field.type)) a.name_is in
-          let here : List Finding = cond found [] (y ∷ []) in
+          let here : List Finding = cond found [] (own_finding 4 slot d k ∷ []) in
           record {
             low = omega arith;
             sound = still_sound asked after hold-after;
@@ -185,6 +194,6 @@ module _ (s starts : List ℕ) (f : Frame) (d : ImplDef) (e : TraitDef) (slot pl
                 ∙ ap (λ (q : List TraitField). g.added ++ lacking S slot i ps x.message k q) a.left_is
                 ∙ ap (λ (q : List Finding). g.added ++ q)
                 (lacking_first S slot i ps x.message k a.field a.others found there
-                ∙ ap₂ (λ (q : Finding) (j : ℕ). cond found [] (q ∷ []) ++ lacking S slot i ps x.message j a.others) (sym (own ∙ own_is x.paired.impl_is 4 slot k)) (sym (add-one k)))
+                ∙ ap₂ (λ (q : Finding) (j : ℕ). cond found [] (q ∷ []) ++ lacking S slot i ps x.message j a.others) (sym (own_is x.paired.impl_is 4 slot k)) (sym (add-one k)))
                 ∙ sym (append_assoc g.added here (lacking S slot i ps x.message (k + 1) a.others));
           }

@@ -2,7 +2,6 @@
 use Prim.Native.Nat.{ℕ, ◌≤◌, ◌<◌}
 use mathlib.Core.Path.{◌≡◌, refl, sym, ap, ap₂, ◌∙◌}
 use mathlib.Core.List.{List, [], ◌∷◌}
-use mathlib.Core.Bool.{false, cond}
 use native.Mathlib.Omega.{arith}
 use lib.ListN.{length, get_or-eq_default}
 use borrow.Author.Tests.{eq-eqb, ne_eqb}
@@ -132,7 +131,7 @@ module _ (s starts : List ℕ) (f : Frame) (d : ImplDef) (e : TraitDef) (slot he
           unfolding targeted
           required k place i t u r h a = adds_same 65536 (omega arith) (by_slot a _ (held_message k a).slot_is) (h (targeted k place i a))
 
-          pub wrong_kind : (kind ≡ 0 → ⊥) → (kind ≡ 1 → ⊥) → (y : Finding) → y ≡ own_finding 3 slot d 0 → (t u : List ℕ) (r : ℕ) → Adds 1 t u held r (cond false [] (y ∷ []))
+          pub wrong_kind : (kind ≡ 0 → ⊥) → (kind ≡ 1 → ⊥) → (y : Finding) → y ≡ own_finding 3 slot d 0 → (t u : List ℕ) (r : ℕ) → Adds 1 t u held r (y ∷ [])
               → (a : Paired s starts f d e held) → Adds 65536 t u held r (target_findings (schema_of f.edition s) slot a.impl a.trait)
           wrong_kind k l y own t u r h a =
               adds_same 65536 (omega arith)
@@ -154,7 +153,7 @@ module _ (s starts : List ℕ) (f : Frame) (d : ImplDef) (e : TraitDef) (slot he
       rw same (h a)
 
   pub other_arity : (e.type_param_count ≡ d.type_arg_count → ⊥) → (t u : List ℕ) (r : ℕ)
-      → Adds 1 t u held r (cond false [] (record { class = 2; slot = slot; offset = d.trait_offset; length = d.trait_length; a = e.type_param_count; b = d.type_arg_count } ∷ []))
+      → Adds 1 t u held r (record { class = 2; slot = slot; offset = d.trait_offset; length = d.trait_length; a = e.type_param_count; b = d.type_arg_count } ∷ [])
       → (a : Paired s starts f d e held) → Adds 65536 t u held r (conforming (schema_of f.edition s) slot a.impl a.trait)
   unfolding conforming
   other_arity q t u r h a =

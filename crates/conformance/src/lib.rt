@@ -1,7 +1,7 @@
 // Impls against their traits: classes 2, 3 and 4.
 #![tactic(auto)]
 
-ghost use Rattle.std.specs.Prelude.{◌≡◌, [], ◌∷◌, cond, ℕ, ◌<◌, ◌≤◌, ◌^◌, eqb};
+ghost use Rattle.std.specs.Prelude.{◌≡◌, [], ◌∷◌, ℕ, ◌<◌, ◌≤◌, ◌^◌, eqb};
 ghost use Rattle.number.specs.Grammar.{done, read};
 ghost use Rattle.slot.specs.Slot.{Impl, impl_at, Trait, trait_at, slot_kind};
 ghost use Rattle.image.specs.Schema.{slot_of};
@@ -117,14 +117,11 @@ fn read_trait(image: &[u8], body: usize, names: u64) -> TraitDef
     }
 }
 
-// One finding more, unless it was found.
-fn put_unless(findings: &mut [u32], count: u64, found: bool, finding: Finding) -> u64
+// One finding more.
+fn add_finding(findings: &mut [u32], count: u64, finding: Finding) -> u64
     requires { count < 2 ^ 60 }
-    ensures { Adds 1 findings.old findings.new count result (cond found [] (finding ∷ [])) }
+    ensures { Adds 1 findings.old findings.new count result (finding ∷ []) }
 {
-    if found {
-        return count;
-    }
     findings::put_finding(findings, count, finding);
     count + 1
 }
@@ -165,8 +162,7 @@ fn check_required_fields(
     let fields = view::take(image, place);
     let mut n = count;
     let mut p = trait_def.fields;
-    let mut k: u32 = 0;
-    while k < trait_def.field_count {
+    for k in 0..trait_def.field_count {
         let name = view::take(image, p);
         let searched = search::search_field(
             image,
@@ -182,14 +178,10 @@ fn check_required_fields(
             name.next,
             &mut places,
         );
-        n = put_unless(
-            findings,
-            n,
-            searched.found,
-            own_finding(4, slot, impl_def, k),
-        );
+        if !searched.found {
+            n = add_finding(findings, n, own_finding(4, slot, impl_def, k));
+        }
         p = searched.next;
-        k += 1;
     }
     n
 }
@@ -227,7 +219,7 @@ fn check_trait_fields(
                         findings,
                         count,
                     ),
-                    _ => put_unless(findings, count, false, own_finding(3, slot, impl_def, 0)),
+                    _ => add_finding(findings, count, own_finding(3, slot, impl_def, 0)),
                 },
                 Part::Missing => count,
             }
@@ -263,7 +255,7 @@ fn check_single_impl_conformance(
         a: trait_def.type_param_count,
         b: impl_def.type_arg_count,
     };
-    put_unless(findings, count, false, arity)
+    add_finding(findings, count, arity)
 }
 
 // The impl in slot `slot`, if its trait is there.
@@ -341,12 +333,9 @@ pub fn check_impl_conformance(
     requires { Promise image.now starts.now frame × (count ≤ 2 ^ 27) }
     ensures { Adds (2 ^ 25) findings.old findings.new count result (conformance_of (schema_of frame.edition image.now) 0 (schema_of frame.edition image.now).slots) }
 {
-    let slots = frame.slots as usize;
     let mut n = count;
-    let mut i: usize = 0;
-    while i < slots {
-        n = check_slot(image, starts, frame, i, findings, n);
-        i += 1;
+    for slot in 0..frame.slots as usize {
+        n = check_slot(image, starts, frame, slot, findings, n);
     }
     n
 }
@@ -365,13 +354,5 @@ pub fn has_impls(image: &[u8], starts: &[usize], frame: Frame) -> bool
     requires { Promise image.now starts.now frame }
     ensures { result ≡ has_impl (schema_of frame.edition image.now).slots }
 {
-    let slots = frame.slots as usize;
-    let mut i: usize = 0;
-    while i < slots {
-        if is_impl(image, starts, i) {
-            return true;
-        }
-        i += 1;
-    }
-    false
+    (0..frame.slots as usize).any(|slot| is_impl(image, starts, slot))
 }

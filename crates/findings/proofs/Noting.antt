@@ -1,9 +1,10 @@
 -- Findings written into the table. Assumes nothing.
-use Prim.Native.Nat.{ℕ, suc, ◌+◌, ◌*◌}
+use Prim.Native.Nat.{ℕ, zero, suc, ◌+◌, ◌*◌, ◌<◌}
 use mathlib.Core.Path.{◌≡◌, refl, sym, ap, ◌∙◌}
 use mathlib.Core.List.{List, [], ◌∷◌, ◌++◌}
 use native.Mathlib.Omega.{arith}
-use lib.ListN.{length, set}
+use native.Mathlib.Numerals.{unary_clauses}
+use lib.ListN.{length, set, get_or, take}
 use lib.Seq.{sets}
 use Rattle.table.specs.Fitted.{fitted}
 use Rattle.table.proofs.Fitting.{written_on}
@@ -20,18 +21,14 @@ unfolding rows_of
 rows_append [] k = refl
 rows_append (f ∷ l) k = ap (λ (r : List ℕ). f.class ∷ f.slot ∷ f.offset ∷ f.length ∷ f.a ∷ f.b ∷ r) (rows_append l k)
 
--- the six numbers, one after the other
-pub six_put : (at : ℕ) (f : Finding) (t a b c d e g : List ℕ)
-    → a ≡ set t at f.class → b ≡ set a (at + 1) f.slot → c ≡ set b (at + 2) f.offset → d ≡ set c (at + 3) f.length
-    → e ≡ set d (at + 4) f.a → g ≡ set e (at + 5) f.b → g ≡ sets t at (rows_of (f ∷ []))
-unfolding rows_of
-six_put at f t a b c d e g u v w x y z =
-    let i : at + 1 ≡ suc at = omega arith in
-    let j : at + 2 ≡ suc (suc at) = omega arith in
-    let k : at + 3 ≡ suc (suc (suc at)) = omega arith in
-    let l : at + 4 ≡ suc (suc (suc (suc at))) = omega arith in
-    let m : at + 5 ≡ suc (suc (suc (suc (suc at)))) = omega arith in
-    rw (z, y, x, w, v, u, i, j, k, l, m)
+-- one number after the other
+pub sets_next : (t r : List ℕ) (at i : ℕ) → i < length r → sets t at (take (i + 1) r) ≡ set (sets t at (take i r)) (at + i) (get_or r i 0)
+sets_next t [] at i h = absurd (omega arith)
+sets_next t (x ∷ r) at zero h = simp unary_clauses
+sets_next t (x ∷ r) at (suc i) h =
+    let e : suc i + 1 ≡ suc (i + 1) = omega arith in
+    let f : suc at + i ≡ at + suc i = omega arith in
+    rw (e, ← f) (sets_next (set t at x) r (suc at) i (omega arith))
 
 -- findings behind those that a table holds
 pub noted_on : (p : ℕ) (l more : List Finding) → sets (noted p l) (6 * length l) (rows_of more) ≡ noted p (l ++ more)

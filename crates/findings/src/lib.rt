@@ -30,24 +30,24 @@ pub enum Value {
     NotName,
 }
 
-fn put(findings: &mut [u32], i: usize, v: u32)
-    ensures { findings.new ≡ set findings.old i v }
-{
-    if i < findings.len() {
-        findings[i] = v;
-    }
-}
-
 // One finding, behind the first `count`; what has no place is left out.
 pub fn put_finding(findings: &mut [u32], count: u64, finding: Finding)
     requires { count < 2 ^ 60 }
     ensures { findings.new ≡ sets findings.old (6 * count) (rows_of (finding ∷ [])) }
 {
     let at = (6 * count) as usize;
-    put(findings, at, finding.class);
-    put(findings, at + 1, finding.slot);
-    put(findings, at + 2, finding.offset);
-    put(findings, at + 3, finding.length);
-    put(findings, at + 4, finding.a);
-    put(findings, at + 5, finding.b);
+    let row = [
+        finding.class,
+        finding.slot,
+        finding.offset,
+        finding.length,
+        finding.a,
+        finding.b,
+    ];
+    for (i, number) in row.iter().enumerate() {
+        // By index: of what is written through `get_mut` of a slice nothing is known afterwards.
+        if at + i < findings.len() {
+            findings[at + i] = *number;
+        }
+    }
 }

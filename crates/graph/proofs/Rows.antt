@@ -5,17 +5,17 @@ use native.Mathlib.Numerals.{add-one}
 use native.Mathlib.Decide.{dec_lt, ℕ_discrete}
 use mathlib.Core.Path.{◌≡◌, refl, sym, ap, ◌∙◌}
 use mathlib.Core.List.{List}
-use mathlib.Core.Logic.{by_cases}
+use mathlib.Core.Logic.{by_cases, ◌↔◌}
 use mathlib.Core.Bool.{Bool, true, false, cond, ◌&&◌, ◌||◌, or-false, or-true, or_assoc, and-false, and-or_distrib_right}
 use borrow.Author.Tests.{lt-ltb, le-ltb, eq-eqb, ne_eqb}
-use lib.ListN.{length, get_or, set, length-set}
-use lib.Seq.{get_or-set_same, get_or-set_other}
+use lib.ListN.{length, get_or, set, take, drop, length-set, length-take, length-drop}
+use lib.Seq.{get_or-set_same, get_or-set_other, get_or-take, get_or-drop}
 use lib.Bits.{bit_or}
 use lib.Dec.{ltb, eqb}
 use Rattle.graph.specs.declared.Lowest.{Lowest}
 use Rattle.graph.specs.Loops.{lowest_same}
 use Rattle.graph.specs.Ways.{Leads, via, lowest, lowest_looped}
-use Rattle.graph.specs.Table.{bit, bit_zero, grid, Grown, Marked, Joined, Round, Closed, Unmarked}
+use Rattle.graph.specs.Table.{bit, bit_zero, grid, Grown, Marked, Round, Closed, Unmarked}
 use Rattle.graph.proofs.Bits.{bit_or_lem, bit_shifted, no_bits, same_place}
 
 ltb_next : (b j : ℕ) → ltb b (j + 1) ≡ (ltb b j || eqb b j)
@@ -30,16 +30,11 @@ pub at_same : (x j : ℕ) (f : ℕ → Bool) → (eqb x j && f j) ≡ (eqb x j &
 at_same x j f =
     by_cases (ℕ_discrete x j) (λ e. ap (λ (y : ℕ). eqb x j && f y) (sym e)) (λ n. rw (ne_eqb x j n))
 
--- row k and column k do not change in round k, so that the code may work in place
+-- row k does not change as it takes in itself, so that the code may work in place
 row_stays : (y p q : Bool) → (y || (p && (q && y))) ≡ y
 row_stays true p q = refl
 row_stays false true q = and-false q
 row_stays false false q = refl
-
-column_stays : (y p q : Bool) → (y || (p && (y && q))) ≡ y
-column_stays true p q = refl
-column_stays false true q = refl
-column_stays false false q = refl
 
 same_either : (t x : Bool) → cond t x x ≡ x
 same_either true x = refl
@@ -102,9 +97,6 @@ module _ (m : List ℕ) (a b : ℕ) where
       grown_as (stored m a (b / 64) (1 * 2 ^ (b % 64) % 2 ^ 64) al (omega arith))
       (λ x y p q. rw (bit_shifted (b % 64) (y % 64) (omega arith)) (same_place (eqb x a) y b))
 
-  pub unmarked : 512 ≤ b → Marked m a b m
-  unmarked h = grown_none (λ x y p q. rw (ne_eqb y b (λ e. omega arith)) (and-false (eqb x a)))
-
 pub empty : (m : List ℕ) (a : ℕ) → ((j : ℕ) → j < 8 → get_or m (a * 8 + j) 0 ≡ 0) → Unmarked m a
 unfolding grid
 empty m a h b l = rw (h (b / 64) (omega arith)) (bit_zero (b % 64))
@@ -116,14 +108,26 @@ marked_word m a j h l u =
     no_bits 64 _ l
     (λ i k. let d : (j * 64 + i) / 64 ≡ j = omega arith in let e : (j * 64 + i) % 64 ≡ i = omega arith in rw (d, e) at (u (j * 64 + i) (omega arith)))
 
+-- a row has no mark where each of its words is 0
+pub row_told : (m : List ℕ) (a : ℕ) → a * 8 + 8 ≤ length m → ((i : ℕ) → get_or m i 0 < 2 ^ 64) → (r : Bool)
+    → (r ≡ true) ↔ ((k : ℕ) → k < length (take (a * 8 + 8 - a * 8) (drop (a * 8) m)) → get_or (take (a * 8 + 8 - a * 8) (drop (a * 8) m)) k 0 ≡ 0)
+    → (r ≡ true) ↔ Unmarked m a
+row_told m a l fits r h = (
+  λ e. empty m a (λ j b. sym (word j b) ∙ h.0 e j (short j b)),
+  λ u. h.1 (λ k b. let k8 : k < 8 = omega (arith, length-take {A = ℕ}) in word k k8 ∙ marked_word m a k k8 (fits (a * 8 + k)) u),
+)
+  where
+    word : (j : ℕ) → j < 8 → get_or (take (a * 8 + 8 - a * 8) (drop (a * 8) m)) j 0 ≡ get_or m (a * 8 + j) 0
+    word j b = let p : j < a * 8 + 8 - a * 8 = omega arith in rw (get_or-take, get_or-drop)
+
+    short : (j : ℕ) → j < 8 → j < length (take (a * 8 + 8 - a * 8) (drop (a * 8) m))
+    short j b = omega (arith, length-take {A = ℕ}, length-drop {A = ℕ})
+
 -- row i has taken in the words of row k below j
 abbrev pub Words : List ℕ → (i k j : ℕ) → List ℕ → Type 0
 Words m₀ i k = Turns (λ a b. b / 64) (λ a b. eqb a i && grid m₀ k b) m₀
 
 module _ (m₀ : List ℕ) (i k : ℕ) where
-  pub words_start : Words m₀ i k 0 m₀
-  words_start = turns_start (λ a b. b / 64) (λ a b. eqb a i && grid m₀ k b) m₀
-
   pub words_on : (j : ℕ) (m : List ℕ) → Words m₀ i k j m → i * 8 + 8 ≤ length m₀ → k * 8 + 8 ≤ length m₀ → j < 8
       → Words m₀ i k (j + 1) (put m i j (get_or m (k * 8 + j) 0))
   unfolding grid
@@ -133,32 +137,9 @@ module _ (m₀ : List ℕ) (i k : ℕ) where
       (λ a b p q. at_same (b / 64) j (λ z. eqb a i && bit (get_or m (k * 8 + z) 0) (b % 64))
       ∙ rw (r.places k b kl q, row_stays)))
 
-  pub words_end : (j : ℕ) (m : List ℕ) → 8 ≤ j → Words m₀ i k j m → Joined m₀ i k m
-  words_end j m h r = grown_as r (λ a b p q. rw (lt-ltb (b / 64) j (omega arith)))
-
 -- the rows below i have been through round k
 abbrev pub Rows : List ℕ → (k i : ℕ) → List ℕ → Type 0
 Rows m₀ k = Turns (λ a b. a) (λ a b. grid m₀ a k && grid m₀ k b) m₀
-
-pub rows_start : (m₀ : List ℕ) (k : ℕ) → Rows m₀ k 0 m₀
-rows_start m₀ k = turns_start (λ a b. a) (λ a b. grid m₀ a k && grid m₀ k b) m₀
-
-module _ (m₀ : List ℕ) (k i : ℕ) (m : List ℕ) (r : Rows m₀ k i m) (kl : k * 8 + 8 ≤ length m₀) (k512 : k < 512) where
-  rows_on : (m' : List ℕ) → Grown m (λ a b. eqb a i && (grid m i k && grid m k b)) m' → Rows m₀ k (i + 1) m'
-  rows_on m' g =
-      turns_on _ _ m₀ i m m' r
-      (grown_as g
-      (λ a b p q. at_same a i (λ z. grid m z k && grid m k b)
-      ∙ rw (r.places a k (omega (arith, r.long)) k512, r.places k b kl q, column_stays, row_stays)))
-
-  pub took : (m' m'' : List ℕ) → grid m i k ≡ true → Joined m i k m' → m'' ≡ m' → Rows m₀ k (i + 1) m''
-  took m' m'' h j e = rw e (rows_on m' (grown_as j (λ a b p q. rw h)))
-
-  pub kept : (m' : List ℕ) → grid m i k ≡ false → m' ≡ m → Rows m₀ k (i + 1) m'
-  kept m' h e = rw e (rows_on m (grown_none (λ a b p q. rw h (and-false (eqb a i)))))
-
-pub round_none : (m : List ℕ) (k n : ℕ) → ((b : ℕ) → b < 512 → grid m k b ≡ false) → Round m k n m
-round_none m k n h = grown_none (λ a b p q. rw (h b q, and-false (grid m a k)) (and-false (ltb a n)))
 
 pub closed_start : (m : List ℕ) (n : ℕ) → Closed m 0 n m
 unfolding via

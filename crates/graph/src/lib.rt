@@ -18,7 +18,7 @@ pub fn mark(rows: &mut [u64], a: usize, b: u64)
 {
     if b < 512 {
         let at = a * 8 + (b / 64) as usize;
-        rows[at] = rows[at] | (1 << (b % 64));
+        rows[at] |= 1 << (b % 64);
     }
 }
 
@@ -34,14 +34,7 @@ fn row_is_empty(rows: &[u64], a: usize) -> bool
     requires { a * 8 + 8 ≤ length rows.now }
     ensures { (result ≡ true) ↔ Unmarked rows.now a }
 {
-    let mut j: usize = 0;
-    while j < 8 {
-        if rows[a * 8 + j] != 0 {
-            return false;
-        }
-        j += 1;
-    }
-    true
+    rows[a * 8..a * 8 + 8].iter().all(|word| *word == 0)
 }
 
 // Row `i` takes in what row `k` has.
@@ -49,11 +42,8 @@ fn join_rows(rows: &mut [u64], i: usize, k: usize)
     requires { (i * 8 + 8 ≤ length rows.old) × (k * 8 + 8 ≤ length rows.old) }
     ensures { Joined rows.old i k rows.new }
 {
-    let mut j: usize = 0;
-    while j < 8 {
-        let at = i * 8 + j;
-        rows[at] = rows[at] | rows[k * 8 + j];
-        j += 1;
+    for j in 0..8 {
+        rows[i * 8 + j] |= rows[k * 8 + j];
     }
 }
 
@@ -65,12 +55,10 @@ fn pass(rows: &mut [u64], k: usize, count: usize)
     if row_is_empty(rows, k) {
         return;
     }
-    let mut i: usize = 0;
-    while i < count {
+    for i in 0..count {
         if leads(rows, i, k) {
             join_rows(rows, i, k);
         }
-        i += 1;
     }
 }
 
@@ -79,10 +67,8 @@ pub fn close(rows: &mut [u64], count: usize)
     requires { (count * 8 ≤ length rows.old) × (count ≤ 512) }
     ensures { Closed rows.old count count rows.new }
 {
-    let mut k: usize = 0;
-    while k < count {
+    for k in 0..count {
         pass(rows, k, count);
-        k += 1;
     }
 }
 
@@ -91,12 +77,10 @@ fn lowest_mark(rows: &[u64], count: usize) -> Lowest
     requires { (count * 8 ≤ length rows.now) × (count ≤ 512) }
     ensures { result ≡ lowest (λ i. grid rows.now i i) count 0 }
 {
-    let mut i: usize = 0;
-    while i < count {
+    for i in 0..count {
         if leads(rows, i, i) {
             return Lowest::At(i);
         }
-        i += 1;
     }
     Lowest::Nowhere
 }

@@ -1,5 +1,6 @@
-mod Appending
+mod Growing
 mod Decimal
+mod Chunks
 mod Pieces
 pub mod Bound
 pub mod Whole

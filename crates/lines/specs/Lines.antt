@@ -78,8 +78,3 @@ pub record Holds (places : ℕ) (text out : List ℕ) (used : ℕ) : Type 0 wher
 pub record Written (places : ℕ) (text out : List ℕ) (used : ℕ) : Type 0 where
   pub holds : Holds places text out used
   pub most : length text ≤ 180000
-
--- a text put behind the one that the buffer holds
-pub record Appends (before : List ℕ) (used : ℕ) (new after : List ℕ) (r : ℕ) : Type 0 where
-  pub long : length after ≡ length before
-  pub grown : (places : ℕ) (text : List ℕ) → Holds places text before used → Holds places (text ++ new) after r

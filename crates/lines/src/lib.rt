@@ -2,189 +2,119 @@
 #![tactic(auto)]
 
 ghost use Rattle.std.specs.Prelude.{◌≡◌, [], ◌∷◌, ◌/◌, ◌<◌, min, length};
-ghost use Rattle.table.specs.Fitted.{fitted};
-ghost use Rattle.lines.specs.Lines.{number_text, spaced, line, header, all_zero, size_line, size_lines, found_word, finding_at, found_lines, end_line, refused_text, accepted_text, Holds, Appends};
+ghost use Rattle.lines.specs.Lines.{number_text, spaced, line, header, size_line, size_lines, found_word, finding_at, found_lines, end_line, refused_text, accepted_text, Holds};
+ghost use Rattle.lines.specs.Growing.{Grows};
 
-fn clear(out: &mut [u8])
-    ensures { out.new ≡ fitted (length out.old) [] }
-{
-    let mut i: usize = 0;
-    while i < out.len() {
-        out[i] = 0;
-        i += 1;
+// A text in a buffer: its first `used` bytes, and zeros after them.
+#[derive(Drop)]
+struct Text<'a> {
+    out: &'a mut [u8],
+    used: usize,
+}
+
+impl<'a> Text<'a> {
+    // The header, in a clear buffer.
+    fn new(out: &'a mut [u8]) -> Text<'a>
+        ensures same_buffer { result.out.ghost_name ≡ out.entry.ghost_name }
+        ensures text { Holds (length out.old) header result.out.now result.used }
+    {
+        out.fill(0);
+        let mut text = Text { out, used: 0 };
+        text.append(b"vexil-typeck 1\n");
+        text
     }
-}
 
-fn put(out: &mut [u8], used: usize, byte: u8) -> usize
-    ensures { Appends out.old used (byte ∷ []) out.new result }
-{
-    if used < out.len() {
-        out[used] = byte;
-        return used + 1;
+    fn put(&mut self, byte: u8)
+        ensures { Grows self.old (byte ∷ []) self.new }
+    {
+        if self.used < self.out.len() {
+            self.out[self.used] = byte;
+            self.used += 1;
+        }
     }
-    used
-}
 
-fn append(out: &mut [u8], used: usize, text: &[u8]) -> usize
-    ensures { Appends out.old used text.now out.new result }
-{
-    let mut end = used;
-    let mut i: usize = 0;
-    while i < text.len() {
-        end = put(out, end, text[i]);
-        i += 1;
+    fn append(&mut self, text: &[u8])
+        ensures { Grows self.old text.now self.new }
+    {
+        for byte in text {
+            self.put(*byte);
+        }
     }
-    end
-}
 
-fn put_number(out: &mut [u8], used: usize, n: u64) -> usize
-    ensures { Appends out.old used (number_text n) out.new result }
-{
-    let mut text = [0u8; 20];
-    let k = io::decimal(n, &mut text);
-    append(out, used, &text[0..k])
-}
-
-// A space before each number.
-fn put_numbers(out: &mut [u8], used: usize, numbers: &[u64]) -> usize
-    ensures { Appends out.old used (spaced numbers.now) out.new result }
-{
-    let mut end = used;
-    let mut i: usize = 0;
-    while i < numbers.len() {
-        end = put(out, end, b' ');
-        end = put_number(out, end, numbers[i]);
-        i += 1;
+    fn put_number(&mut self, n: u64)
+        ensures { Grows self.old (number_text n) self.new }
+    {
+        let mut digits = [0u8; 20];
+        let count = io::decimal(n, &mut digits);
+        self.append(&digits[..count]);
     }
-    end
-}
 
-fn put_line(out: &mut [u8], used: usize, word: &[u8], numbers: &[u64]) -> usize
-    ensures { Appends out.old used (line word.now numbers.now) out.new result }
-{
-    let word_end = append(out, used, word);
-    let numbers_end = put_numbers(out, word_end, numbers);
-    put(out, numbers_end, b'\n')
-}
-
-fn all_zero(a: u64, b: u64, c: u64) -> bool
-    ensures { result ≡ all_zero a b c }
-{
-    if a != 0 {
-        return false;
+    // A space before each number.
+    fn put_numbers(&mut self, numbers: &[u64])
+        ensures { Grows self.old (spaced numbers.now) self.new }
+    {
+        for number in numbers {
+            self.put(b' ');
+            self.put_number(*number);
+        }
     }
-    if b != 0 {
-        return false;
+
+    fn put_line(&mut self, word: &[u8], numbers: &[u64])
+        ensures { Grows self.old (line word.now numbers.now) self.new }
+    {
+        self.append(word);
+        self.put_numbers(numbers);
+        self.put(b'\n');
     }
-    c == 0
-}
 
-fn put_size(out: &mut [u8], used: usize, slot: u64, a: u64, b: u64, c: u64) -> usize
-    ensures { Appends out.old used (size_line slot a b c) out.new result }
-{
-    if all_zero(a, b, c) {
-        return used;
+    // A slot's line, unless all three of its numbers are zero.
+    fn put_size(&mut self, slot: u64, a: u64, b: u64, c: u64)
+        ensures { Grows self.old (size_line slot a b c) self.new }
+    {
+        if a != 0 || b != 0 || c != 0 {
+            self.put_line(b"size", &[slot, a, b, c]);
+        }
     }
-    let numbers = [slot, a, b, c];
-    put_line(out, used, b"size", &numbers)
-}
 
-fn put_sizes(out: &mut [u8], used: usize, sizes: &[u64]) -> usize
-    ensures { Appends out.old used (size_lines (length sizes.now / 3) sizes.now) out.new result }
-{
-    let slots = sizes.len() / 3;
-    let mut end = used;
-    let mut slot: usize = 0;
-    while slot < slots {
-        let at = 3 * slot;
-        end = put_size(
-            out,
-            end,
-            slot as u64,
-            sizes[at],
-            sizes[at + 1],
-            sizes[at + 2],
-        );
-        slot += 1;
+    fn put_sizes(&mut self, sizes: &[u64])
+        ensures { Grows self.old (size_lines (length sizes.now / 3) sizes.now) self.new }
+    {
+        for (slot, size) in sizes.chunks_exact(3).enumerate() {
+            self.put_size(slot as u64, size[0], size[1], size[2]);
+        }
     }
-    end
-}
 
-fn wide(x: u32) -> u64
-    ensures { result ≡ x }
-{
-    x as u64
-}
-
-fn finding_at(findings: &[u32], i: usize) -> [u64; 6]
-    requires { i < length findings.now / 6 }
-    ensures { result ≡ finding_at findings.now i }
-{
-    let at = 6 * i;
-    [
-        wide(findings[at]),
-        wide(findings[at + 1]),
-        wide(findings[at + 2]),
-        wide(findings[at + 3]),
-        wide(findings[at + 4]),
-        wide(findings[at + 5]),
-    ]
-}
-
-fn put_found(out: &mut [u8], used: usize, findings: &[u32], i: usize) -> usize
-    requires { i < length findings.now / 6 }
-    ensures { Appends out.old used (line found_word (finding_at findings.now i)) out.new result }
-{
-    let numbers = finding_at(findings, i);
-    put_line(out, used, b"found", &numbers)
-}
-
-// How many findings to write: `count`, as far as they lie whole in the table.
-fn whole_findings(findings: &[u32], count: u64) -> usize
-    ensures { result ≡ min count (length findings.now / 6) }
-{
-    let whole = findings.len() / 6;
-    if count < whole as u64 {
-        return count as usize;
+    // The first `count` findings, as far as they lie whole in the table.
+    fn put_findings(&mut self, findings: &[u32], count: u64)
+        ensures { Grows self.old (found_lines (min count (length findings.now / 6)) findings.now) self.new }
+    {
+        for finding in findings.chunks_exact(6).take(count as usize) {
+            let numbers = [
+                u64::from(finding[0]),
+                u64::from(finding[1]),
+                u64::from(finding[2]),
+                u64::from(finding[3]),
+                u64::from(finding[4]),
+                u64::from(finding[5]),
+            ];
+            self.put_line(b"found", &numbers);
+        }
     }
-    whole
-}
 
-fn put_findings(out: &mut [u8], used: usize, findings: &[u32], count: u64) -> usize
-    ensures { Appends out.old used (found_lines (min count (length findings.now / 6)) findings.now) out.new result }
-{
-    let n = whole_findings(findings, count);
-    let mut end = used;
-    let mut i: usize = 0;
-    while i < n {
-        end = put_found(out, end, findings, i);
-        i += 1;
+    fn put_end(&mut self, count: u64)
+        ensures { Grows self.old (end_line count) self.new }
+    {
+        self.put_line(b"end", &[count]);
     }
-    end
-}
-
-fn put_end(out: &mut [u8], used: usize, count: u64) -> usize
-    ensures { Appends out.old used (end_line count) out.new result }
-{
-    let numbers = [count];
-    put_line(out, used, b"end", &numbers)
-}
-
-// A clear buffer with the header in it.
-fn start_text(out: &mut [u8]) -> usize
-    ensures { Holds (length out.old) header out.new result }
-{
-    clear(out);
-    append(out, 0, b"vexil-typeck 1\n")
 }
 
 // Writes the text of a refusal, and answers how many bytes of the buffer it takes.
 pub fn write_refused(number: u64, place: u64, out: &mut [u8]) -> usize
     ensures { Holds (length out.old) (refused_text number place) out.new result }
 {
-    let used = start_text(out);
-    let numbers = [number, place];
-    put_line(out, used, b"refused", &numbers)
+    let mut text = Text::new(out);
+    text.put_line(b"refused", &[number, place]);
+    text.used
 }
 
 // Writes the text of an accepted image: its size table, its first `count` findings and their number. Answers how many
@@ -192,8 +122,9 @@ pub fn write_refused(number: u64, place: u64, out: &mut [u8]) -> usize
 pub fn write_accepted(sizes: &[u64], findings: &[u32], count: u64, out: &mut [u8]) -> usize
     ensures { Holds (length out.old) (accepted_text sizes.now findings.now count) out.new result }
 {
-    let used = start_text(out);
-    let sizes_end = put_sizes(out, used, sizes);
-    let findings_end = put_findings(out, sizes_end, findings, count);
-    put_end(out, findings_end, count)
+    let mut text = Text::new(out);
+    text.put_sizes(sizes);
+    text.put_findings(findings, count);
+    text.put_end(count);
+    text.used
 }

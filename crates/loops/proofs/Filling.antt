@@ -90,23 +90,17 @@ module _ (sort : Sort) (ed : Edition) (names count : ℕ) (finds s starts : List
   abbrev S : ℕ → Slot
   S = slots_of ed names count s starts
 
-  abbrev pub Rows : (before : List ℕ) → (i : ℕ) → (after : List ℕ) → Type 0
-  Rows before i after = (i ≤ count) × Filled before (leads sort finds S) i after
-
-  pub rows_start : (m : List ℕ) → Rows m 0 m
-  rows_start m = (omega arith, turns_start (λ a b. a) (leads sort finds S) m)
+  pub rows_start : (m : List ℕ) → Filled m (leads sort finds S) 0 m
+  rows_start m = turns_start (λ a b. a) (leads sort finds S) m
 
   module _ (p : Located ed names count s starts) where
-    pub rows_on : (m₀ m m' : List ℕ) (i : ℕ) → i < count → Rows m₀ i m → SlotMarked sort names finds i s starts m m' → Rows m₀ (i + 1) m'
+    pub rows_on : (m₀ m m' : List ℕ) (i : ℕ) → i < count → Filled m₀ (leads sort finds S) i m → SlotMarked sort names finds i s starts m m' → Filled m₀ (leads sort finds S) (i + 1) m'
     unfolding leads
     rows_on m₀ m m' i l r w =
         let q = p.reads i l in
         let y = ap (slot_leads sort finds) (sym (slot_is_lem ed names count s starts i l q.0 q.1 q.2)) in
         let g = grown_as (led_as i y (w p.named (omega (arith, p.room)) ed q.0 q.1 q.2)) (λ a b u v. at_same a i (λ z. has b (slot_leads sort finds (S z)))) in
-        (omega arith, turns_on (λ a b. a) (leads sort finds S) m₀ i m m' r.1 g)
-
-  pub rows_end : (m₀ m : List ℕ) (i : ℕ) → count ≤ i → Rows m₀ i m → Filled m₀ (leads sort finds S) count m
-  rows_end m₀ m i h r = let z : i ≡ count = omega (arith, r.0) in rw z at r.1
+        turns_on (λ a b. a) (leads sort finds S) m₀ i m m' r g
 
   pub lowest_is : (m : List ℕ) (r : Lowest) → count ≤ 512 → Filled (replicate 4096 0) (leads sort finds S) count m → r ≡ lowest_looped (grid m) count
       → r ≡ loop_of sort finds S count

@@ -76,10 +76,6 @@ first_places fs u f h n = by_cases (dec_lt n u)
         ap (λ (m : ℕ). get_or (fs ++ drop (0 + length fs) (replicate 4096 0)) m 0) d ∙ get_or-append-add fs (drop (0 + length fs) (replicate 4096 0)) (n - length fs) 0
         ∙ get_or-drop (0 + length fs) (replicate 4096 0) (n - length fs) 0 ∙ ap (λ (m : ℕ). get_or (replicate 4096 0) m 0) z ∙ get_or-replicate 4096 n 0 0 (omega arith) ∙ sym (get_or-eq_default fs 0 (omega arith)))
 
-pub used_few : (sort : Sort) (names used : ℕ) → used ≡ used_names sort names → names ≤ 4096 → used ≤ 4096
-used_few Resolved names used e h = omega arith
-used_few Expression names used e h = omega arith
-
 module _ (names : ℕ) (s : List ℕ) (at : ℕ) (slots : ℕ → Slot) (count : ℕ) (few : names ≤ 4096) where
   pub used_loop : (sort : Sort) (used : ℕ) (table part : List ℕ) (r : Lowest) → used ≡ used_names sort names
       → table ≡ sets (replicate 4096 0) 0 (finds_at used s at) → part ≡ take (used - 0) (drop 0 table) → r ≡ loop_of sort part slots count

@@ -97,16 +97,17 @@ module _ (finds : List ℕ) where
   generic_slots_lem Resolved e = rw e
   generic_slots_lem Expression e = rw e
 
-  pub name_none : (n : ℕ) → get_or finds n 0 ≤ 0 → [] ≡ name_slots Expression finds n
+  pub name_none : (sort : Sort) (n : ℕ) → get_or finds n 0 ≤ 0 → [] ≡ name_slots sort finds n
   unfolding name_slots
-  name_none n h = let z : get_or finds n 0 ≡ 0 = omega arith in rw z
+  name_none Resolved n h = refl
+  name_none Expression n h = let z : get_or finds n 0 ≡ 0 = omega arith in rw z
 
-  pub name_out : (n : ℕ) → length finds ≤ n → [] ≡ name_slots Expression finds n
-  name_out n h = name_none n (omega (arith, get_or-eq_default finds 0 h))
+  pub name_out : (sort : Sort) (n : ℕ) → length finds ≤ n → [] ≡ name_slots sort finds n
+  name_out sort n h = name_none sort n (omega (arith, get_or-eq_default finds 0 h))
 
-  pub name_found : (n : ℕ) → 0 < get_or finds n 0 → (get_or finds n 0 - 1) ∷ [] ≡ name_slots Expression finds n
+  pub name_found : (n v : ℕ) → v ≡ get_or finds n 0 → 0 < v → (v - 1) ∷ [] ≡ name_slots Expression finds n
   unfolding name_slots
-  name_found n h = let z : get_or finds n 0 ≡ suc (get_or finds n 0 - 1) = omega arith in sym (ap found z)
+  name_found n v e h = let z : get_or finds n 0 ≡ suc (v - 1) = omega arith in sym (ap found z)
 
   pub leaf_none : (l : Leaf) → (leaf_kind l ≡ 3 → ⊥) → [] ≡ tree_slots Resolved finds (leaf l)
   unfolding tree_slots terminal_slots
@@ -116,6 +117,11 @@ module _ (finds : List ℕ) where
   leaf_none (named i) h = absurd (h refl)
   leaf_none (bits_inline ns) h = refl
   leaf_none (qualified n) h = refl
+
+  pub leaf_other : (sort : Sort) (l : Leaf) → (sort ≡ Resolved → leaf_kind l ≡ 3 → ⊥) → [] ≡ tree_slots sort finds (leaf l)
+  unfolding tree_slots generic_slots
+  leaf_other Resolved l h = leaf_none l (h refl)
+  leaf_other Expression l h = refl
 
   pub leaf_named : (l : Leaf) (v : ℕ) → leaf_kind l ≡ 3 → leaf_number l ≡ v → v ∷ [] ≡ tree_slots Resolved finds (leaf l)
   unfolding tree_slots terminal_slots

@@ -20,10 +20,7 @@ fn goes_in(sort: Sort, kind: u64) -> bool
     ensures { result ≡ enters sort kind }
 {
     match sort {
-        Sort::Resolved => match kind {
-            5 | 7 | 8 => false,
-            _ => true,
-        },
+        Sort::Resolved => !matches!(kind, 5 | 7 | 8),
         Sort::Expression => true,
     }
 }
@@ -33,12 +30,8 @@ fn mark_leaf(sort: Sort, kind: u64, number: u64, rows: &mut [u64], row: usize)
     requires { row * 8 + 8 ≤ length rows.old }
     ensures { (finds : List ℕ) (l : Leaf) → leaf_kind l ≡ kind → leaf_number l ≡ number → Led rows.old row (tree_slots sort finds (leaf l)) rows.new }
 {
-    match sort {
-        Sort::Resolved => match kind {
-            3 => graph::mark(rows, row, number),
-            _ => {}
-        },
-        Sort::Expression => {}
+    if matches!(sort, Sort::Resolved) && kind == 3 {
+        graph::mark(rows, row, number);
     }
 }
 
@@ -47,15 +40,10 @@ fn mark_generic(sort: Sort, name: u64, finds: &[u16], rows: &mut [u64], row: usi
     requires { row * 8 + 8 ≤ length rows.old }
     ensures { Led rows.old row (name_slots sort finds.now name) rows.new }
 {
-    match sort {
-        Sort::Resolved => {}
-        Sort::Expression => {
-            if name < finds.len() as u64 {
-                let find = finds[name as usize] as u64;
-                if 0 < find {
-                    graph::mark(rows, row, find - 1);
-                }
-            }
+    if matches!(sort, Sort::Expression) && name < finds.len() as u64 {
+        let find = u64::from(finds[name as usize]);
+        if 0 < find {
+            graph::mark(rows, row, find - 1);
         }
     }
 }
@@ -161,10 +149,8 @@ fn fill_rows(
     requires { (count * 8 ≤ length rows.old) × ((ed : Edition) × Located ed names count image.now starts.now) }
     ensures { (ed : Edition) → Located ed names count image.now starts.now → Filled rows.old (leads sort finds.now (slots_of ed names count image.now starts.now)) count rows.new }
 {
-    let mut i: usize = 0;
-    while i < count {
+    for i in 0..count {
         slot_row(image, starts, sort, names, finds, rows, i);
-        i += 1;
     }
 }
 
@@ -173,14 +159,7 @@ pub fn none_leads(image: &[u8], starts: &[usize], count: usize, sort: Sort) -> b
     requires { (ed : Edition) × (names : ℕ) × Located ed names count image.now starts.now }
     ensures { (ed : Edition) (names : ℕ) → Located ed names count image.now starts.now → result ≡ none_leads sort (slots_of ed names count image.now starts.now) count }
 {
-    let mut i: usize = 0;
-    while i < count {
-        if is_lead(image, starts, i, sort) {
-            return false;
-        }
-        i += 1;
-    }
-    true
+    !(0..count).any(|i| is_lead(image, starts, i, sort))
 }
 
 // The lowest slot on a loop, once what the names find stands in a table.

@@ -30,29 +30,29 @@ unfoldable pub all_of : {A : Type 0} → (A → List ℕ) → List A → List �
 all_of f [] = []
 all_of f (x ∷ xs) = f x ++ all_of f xs
 
--- `left` of `count` things are still to come at p: what is marked so far and they are the whole run
-pub record Left {A : Type 0} (g : Grammar A) (f : A → List ℕ) (s : List ℕ) (row count at : ℕ) (x : List ℕ) (left p : ℕ) (y : List ℕ) : Type 0 where
+-- so many of `count` things are marked, and the others still to come at p: together they are the whole run
+pub record Run {A : Type 0} (g : Grammar A) (f : A → List ℕ) (s : List ℕ) (row count at : ℕ) (x : List ℕ) (passed p : ℕ) (y : List ℕ) : Type 0 where
   pub whole : (xs : List A) (end : ℕ) → read (many count g) s at ≡ done xs end
-      → (ys : List A) × (past : List ℕ) × (read (many left g) s p ≡ done ys end) × Led x row past y × (past ++ all_of f ys ≡ all_of f xs)
+      → (ys : List A) × (past : List ℕ) × (read (many (count - passed) g) s p ≡ done ys end) × Led x row past y × (past ++ all_of f ys ≡ all_of f xs)
 
 module _ {A : Type 0} (g : Grammar A) (f : A → List ℕ) (s : List ℕ) (row : ℕ) where
   module _ (count at : ℕ) (x : List ℕ) where
-    pub left_start : Left g f s row count at x count at x
-    left_start = record { whole = λ xs end e. (xs, [], e, led_none row refl, refl) }
+    pub run_start : Run g f s row count at x 0 at x
+    run_start = let d : count - 0 ≡ count = omega arith in record { whole = λ xs end e. (xs, [], rw d e, led_none row refl, refl) }
 
-    pub left_on : (left p n : ℕ) (y z : List ℕ) → 0 < left → Marks g f s p row y z n → Left g f s row count at x left p y
-        → Left g f s row count at x (left - 1) n z
+    pub run_on : (passed p n : ℕ) (y z : List ℕ) → passed < count → Marks g f s p row y z n → Run g f s row count at x passed p y
+        → Run g f s row count at x (passed + 1) n z
     unfolding all_of
-    left_on left p n y z h i l =
+    run_on passed p n y z h i l =
         record {
           whole = λ xs end e.
-              let d : left ≡ suc (left - 1) = omega arith in
+              let d : count - passed ≡ suc (count - (passed + 1)) = omega arith in
               let a = l.whole xs end e in
-              let w = front g s (left - 1) p a.0 end (rw d at a.2) in
+              let w = front g s (count - (passed + 1)) p a.0 end (rw d at a.2) in
               let q = i.marked w.first w.middle w.here in (
                 w.others,
                 a.1 ++ f w.first,
-                ap (read (many (left - 1) g) s) q.1 ∙ w.rest,
+                ap (read (many (count - (passed + 1)) g) s) q.1 ∙ w.rest,
                 led_more row a.1 (f w.first) a.3 q.0,
                 append_assoc a.1 (f w.first) (all_of f w.others)
                     ∙ sym (ap (λ (u : List A). a.1 ++ all_of f u) w.whole)
@@ -60,12 +60,12 @@ module _ {A : Type 0} (g : Grammar A) (f : A → List ℕ) (s : List ℕ) (row :
               );
         }
 
-    pub left_end : (left p : ℕ) (y : List ℕ) → left ≤ 0 → Left g f s row count at x left p y → Marks (many count g) (all_of f) s at row x y p
+    pub run_end : (passed p : ℕ) (y : List ℕ) → count ≤ passed → Run g f s row count at x passed p y → Marks (many count g) (all_of f) s at row x y p
     unfolding many read all_of
-    left_end left p y h l =
+    run_end passed p y h l =
         record {
           marked = λ xs end e.
-              let d : left ≡ 0 = omega arith in
+              let d : count - passed ≡ 0 = omega arith in
               let a = l.whole xs end e in
               let k = given (rw d at a.2) in
               (led_as row (sym (append-nil a.1) ∙ ap (λ (u : List A). a.1 ++ all_of f u) k.0 ∙ a.4) a.3, k.1);
@@ -137,12 +137,3 @@ module _ (S : Schema) (i : ℕ) (ed : Edition) (names : ℕ) (s starts : List �
 
   pub slot_other : (kind ≡ 1 → ⊥) → (kind ≡ 4 → ⊥) → (kind ≡ 5 → ⊥) → SlotMarked m
   slot_other h k j = led_none i (no_parts (slot_of S i) b.kind_is h k j ∙ parts_in (slot_of S i) refl)
-
--- ## All slots
-
-pub parts_start : (S : Schema) (m : List ℕ) → Filled m (part_leads S) 0 m
-parts_start S m = turns_start (λ a b. a) (part_leads S) m
-
-pub parts_on : (S : Schema) (m₀ m m' : List ℕ) (i : ℕ) → Filled m₀ (part_leads S) i m → Led m i (parts_of S i) m' → Filled m₀ (part_leads S) (i + 1) m'
-parts_on S m₀ m m' i r w =
-    turns_on (λ a b. a) (part_leads S) m₀ i m m' r (grown_as w (λ a b u v. at_same a i (λ z. has b (parts_of S z))))

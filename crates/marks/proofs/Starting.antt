@@ -1,15 +1,12 @@
 -- The declared messages and unions, one declaration after another. Assumes nothing.
-use Prim.Native.Nat.{ℕ, suc, ◌-◌, ◌^◌, ◌<◌, ◌≤◌}
+use Prim.Native.Nat.{ℕ, suc, ◌+◌, ◌-◌, ◌^◌, ◌<◌, ◌≤◌}
 use mathlib.Core.Path.{◌≡◌, refl, sym, ap, ◌∙◌}
 use mathlib.Core.List.{List, [], ◌∷◌, ◌++◌, append_assoc, append-nil}
-use mathlib.Core.Logic.{◌⊎◌, ⊎_elim, by_cases}
-use mathlib.Core.Bool.{Bool, true, false, ◌&&◌, or-false, or-true, and-false, and-or_distrib_right}
+use mathlib.Core.Logic.{◌⊎◌, ⊎_elim}
+use mathlib.Core.Bool.{Bool, true, false, ◌&&◌, or-false, and-or_distrib_right}
 use native.Mathlib.Omega.{arith}
-use native.Mathlib.Decide.{ℕ_discrete}
-use borrow.Author.Tests.{eq-eqb, ne_eqb}
 use lib.Dec.{eqb}
-use lib.ListN.{length, get_or, set, replicate, length-set, get_or-replicate}
-use lib.Seq.{get_or-set_same, get_or-set_other}
+use lib.ListN.{length, get_or, replicate, get_or-replicate}
 use Rattle.number.specs.Grammar.{slot, number, many, done, read}
 use Rattle.number.proofs.Reading.{given, front, read_number}
 use Rattle.slot.specs.Slot.{Slot, empty, message, enum, flags, union, newtype, config, alias, trait, impl, slot_kind}
@@ -59,65 +56,40 @@ module _ {ed : Edition} {names : ℕ} {s : List ℕ} {x : Slot} {k body : ℕ} (
   pub not_sizable : (k ≡ 1 → ⊥) → (k ≡ 4 → ⊥) → false ≡ is_sizable x
   not_sizable h j = not_kind x k b.kind_is h j
 
--- ## One declaration
-
-module _ (S : Schema) (slots x : ℕ) (marks : List Bool) where
-  abbrev more : ℕ → Bool
-  more i = eqb i x && is_sizable (slot_of S i)
-
-  none_more : ((i : ℕ) → i < slots → more i ≡ false) → Begun S slots x marks marks
-  none_more h = record { long = refl; places = λ i l. rw (h i l) (sym (or-false (get_or marks i false))) }
-
-  pub not_there : slots ≤ x → Begun S slots x marks marks
-  not_there h = none_more (λ i l. rw (ne_eqb i x (λ e. omega arith)))
-
-  pub not_one : is_sizable (slot_of S x) ≡ false → Begun S slots x marks marks
-  not_one h =
-      none_more (λ i l. by_cases (ℕ_discrete i x) (λ e. rw (e, h) (and-false (eqb x x))) (λ e. rw (ne_eqb i x e)))
-
-  pub is_one : slots ≤ length marks → x < slots → is_sizable (slot_of S x) ≡ true → Begun S slots x marks (set marks x true)
-  is_one room l h =
-      record {
-        long = length-set marks x true;
-        places = λ i b.
-            by_cases (ℕ_discrete i x)
-            (λ e. rw (e, eq-eqb x x refl, h, get_or-set_same marks x true false (omega arith)) (sym (or-true (get_or marks x false))))
-            (λ e. rw (ne_eqb i x e, get_or-set_other marks x i true false e) (sym (or-false (get_or marks i false))));
-      }
-
 -- ## All declarations
 
--- `left` declarations are still to come at p, and those before them are marked
-pub record Going (S : Schema) (slots : ℕ) (s : List ℕ) (before : List Bool) (left p : ℕ) (marks : List Bool) : Type 0 where
+-- so many of `count` declarations are marked, and the others still to come at p
+pub record Going (S : Schema) (slots : ℕ) (s : List ℕ) (before : List Bool) (count passed p : ℕ) (marks : List Bool) : Type 0 where
   pub long : length marks ≡ length before
   pub past : List ℕ
   pub rest : List ℕ
   pub end : ℕ
-  pub reads : read (many left (number slot (2 ^ 32))) s p ≡ done rest end
+  pub reads : read (many (count - passed) (number slot (2 ^ 32))) s p ≡ done rest end
   pub whole : past ++ rest ≡ S.declared
   pub places : (i : ℕ) → i < slots → get_or marks i false ≡ (has i past && is_sizable (slot_of S i))
 
 pub going_start : (s starts : List ℕ) (f : Frame) (marks : List Bool) → Promise s starts f → marks ≡ replicate (length marks) false → f.slots ≤ length marks
-    → Going (schema_of f.edition s) f.slots s marks f.declarations f.declared marks
+    → Going (schema_of f.edition s) f.slots s marks f.declarations 0 f.declared marks
 unfolding has
 going_start s starts f marks p h room =
+    let d : f.declarations - 0 ≡ f.declarations = omega arith in
     record {
       long = refl;
       past = [];
       rest = (schema_of f.edition s).declared;
       end = p.declared_end;
-      reads = p.declared;
+      reads = rw d p.declared;
       whole = refl;
       places = λ i l. ap (λ (m : List Bool). get_or m i false) h ∙ get_or-replicate (length marks) i false false (omega arith);
     }
 
-module _ (S : Schema) (slots : ℕ) (s : List ℕ) (before : List Bool) (left p : ℕ) (marks : List Bool) (g : Going S slots s before left p marks) where
-  pub going_on : 0 < left → (t : Taken) → t ≡ taken_at s p → (marks' : List Bool) → Begun S slots t.value marks marks'
-      → Going S slots s before (left - 1) t.next marks'
+module _ (S : Schema) (slots : ℕ) (s : List ℕ) (before : List Bool) (count passed p : ℕ) (marks : List Bool) (g : Going S slots s before count passed p marks) where
+  pub going_on : passed < count → (t : Taken) → t ≡ taken_at s p → (marks' : List Bool) → Begun S slots t.value marks marks'
+      → Going S slots s before count (passed + 1) t.next marks'
   unfolding has
   going_on h t q marks' b =
-      let d : left ≡ suc (left - 1) = omega arith in
-      let w = front (number slot (2 ^ 32)) s (left - 1) p g.rest g.end (rw d at g.reads) in
+      let d : count - passed ≡ suc (count - (passed + 1)) = omega arith in
+      let w = front (number slot (2 ^ 32)) s (count - (passed + 1)) p g.rest g.end (rw d at g.reads) in
       let k = q ∙ ap taken_of (sym (read_number slot (2 ^ 32) s p) ∙ w.here) in
       let v : t.value ≡ w.first = ap (λ (z : Taken). z.value) k in
       let n : t.next ≡ w.middle = ap (λ (z : Taken). z.next) k in
@@ -126,7 +98,7 @@ module _ (S : Schema) (slots : ℕ) (s : List ℕ) (before : List Bool) (left p 
         past = g.past ++ (w.first ∷ []);
         rest = w.others;
         end = g.end;
-        reads = ap (read (many (left - 1) (number slot (2 ^ 32))) s) n ∙ w.rest;
+        reads = ap (read (many (count - (passed + 1)) (number slot (2 ^ 32))) s) n ∙ w.rest;
         whole = append_assoc g.past (w.first ∷ []) w.others ∙ sym (ap (λ (u : List ℕ). g.past ++ u) w.whole) ∙ g.whole;
         places = λ i l.
             b.places i l
@@ -134,10 +106,10 @@ module _ (S : Schema) (slots : ℕ) (s : List ℕ) (before : List Bool) (left p 
             (sym (and-or_distrib_right (has i g.past) (eqb i w.first) (is_sizable (slot_of S i))));
       }
 
-  pub going_end : left ≤ 0 → Started S slots before marks
+  pub going_end : count ≤ passed → Started S slots before marks
   unfolding many read
   going_end h =
-      let d : left ≡ 0 = omega arith in
+      let d : count - passed ≡ 0 = omega arith in
       let k = given (rw d at g.reads) in
       let e : g.past ≡ S.declared = sym (append-nil g.past) ∙ ap (λ (u : List ℕ). g.past ++ u) k.0 ∙ g.whole in
       record { long = g.long; places = λ i l. g.places i l ∙ ap (λ (u : List ℕ). has i u && is_sizable (slot_of S i)) e }

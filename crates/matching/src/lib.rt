@@ -34,43 +34,19 @@ pub struct Node {
 fn node_of(head: Head) -> Node
     ensures { result ≡ node_of head }
 {
-    match head {
-        Head::Leaf(kind, flag, number, next) => Node {
-            kind,
-            flag,
-            number,
-            next,
-        },
-        Head::One(kind, next) => Node {
-            kind,
-            flag: 0,
-            number: 0,
-            next,
-        },
-        Head::Two(kind, next) => Node {
-            kind,
-            flag: 0,
-            number: 0,
-            next,
-        },
-        Head::Sized(next) => Node {
-            kind: 6,
-            flag: 0,
-            number: 0,
-            next,
-        },
-        Head::Generic(number, next) => Node {
-            kind: 18,
-            flag: 0,
-            number,
-            next,
-        },
-        Head::Refused(_, next) => Node {
-            kind: 19,
-            flag: 0,
-            number: 0,
-            next,
-        },
+    let (kind, flag, number, next) = match head {
+        Head::Leaf(kind, flag, number, next) => (kind, flag, number, next),
+        Head::One(kind, next) => (kind, 0, 0, next),
+        Head::Two(kind, next) => (kind, 0, 0, next),
+        Head::Sized(next) => (6, 0, 0, next),
+        Head::Generic(number, next) => (18, 0, number, next),
+        Head::Refused(_, next) => (19, 0, 0, next),
+    };
+    Node {
+        kind,
+        flag,
+        number,
+        next,
     }
 }
 
@@ -78,18 +54,16 @@ fn node_of(head: Head) -> Node
 fn same_size(image: &[u8], a: usize, b: usize) -> Matched
     ensures { SameSize image.now a b result }
 {
-    match number::read_whole(image, a) {
-        Ranged::Value(x, m) => match number::read_whole(image, b) {
-            Ranged::Value(y, n) => {
-                if x == y {
-                    Matched::Same(m, n)
-                } else {
-                    Matched::Differs
-                }
-            }
-            Ranged::Refused(_, q) => Matched::Differs,
-        },
-        Ranged::Refused(_, q) => Matched::Differs,
+    let Ranged::Value(x, m) = number::read_whole(image, a) else {
+        return Matched::Differs;
+    };
+    let Ranged::Value(y, n) = number::read_whole(image, b) else {
+        return Matched::Differs;
+    };
+    if x == y {
+        Matched::Same(m, n)
+    } else {
+        Matched::Differs
     }
 }
 
@@ -108,28 +82,20 @@ fn names_start(image: &[u8], at: usize) -> usize
 fn same_names(image: &[u8], a: usize, b: usize, count: u64, names: u64) -> bool
     ensures { SameNames names image.now a b count result }
 {
-    let mut left = count;
     let mut p = a;
     let mut q = b;
-    while 0 < left {
-        match number::read_below(image, p, names) {
-            Ranged::Value(x, m) => match number::read_below(image, q, names) {
-                Ranged::Value(y, n) => {
-                    if x != y {
-                        return false;
-                    }
-                    p = m;
-                    q = n;
-                    left -= 1;
-                }
-                Ranged::Refused(_, place) => {
-                    return false;
-                }
-            },
-            Ranged::Refused(_, place) => {
-                return false;
-            }
+    for _ in 0..count {
+        let Ranged::Value(x, m) = number::read_below(image, p, names) else {
+            return false;
+        };
+        let Ranged::Value(y, n) = number::read_below(image, q, names) else {
+            return false;
+        };
+        if x != y {
+            return false;
         }
+        p = m;
+        q = n;
     }
     true
 }
@@ -138,40 +104,26 @@ fn same_names(image: &[u8], a: usize, b: usize, count: u64, names: u64) -> bool
 fn same_leaf(image: &[u8], names: u64, p: usize, q: usize, a: Node, b: Node) -> Matched
     ensures { SameLeaf names image.now p q a b result }
 {
-    if a.kind != b.kind {
-        return Matched::Differs;
-    }
-    if a.flag != b.flag {
-        return Matched::Differs;
-    }
-    if a.number != b.number {
+    if a.kind != b.kind || a.flag != b.flag || a.number != b.number {
         return Matched::Differs;
     }
     if a.kind == 16 {
         let x = names_start(image, p);
         let y = names_start(image, q);
-        let count = a.number;
-        let same = same_names(image, x, y, count, names);
-        if same {
-            Matched::Same(a.next, b.next)
-        } else {
-            Matched::Differs
+        if !same_names(image, x, y, a.number, names) {
+            return Matched::Differs;
         }
-    } else {
-        Matched::Same(a.next, b.next)
     }
+    Matched::Same(a.next, b.next)
 }
 
 // Whether a head is the name of a slot.
+#[tactic(auto, unfolding(crate::specs::Steps::id_answer))]
 fn same_id(a: Node, id: u64, after: usize) -> Matched
     ensures { result ≡ id_answer a id after }
 {
-    if a.kind == 3 {
-        if a.number == id {
-            Matched::Same(a.next, after)
-        } else {
-            Matched::Differs
-        }
+    if a.kind == 3 && a.number == id {
+        Matched::Same(a.next, after)
     } else {
         Matched::Differs
     }

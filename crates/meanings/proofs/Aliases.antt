@@ -1,5 +1,5 @@
 -- Where the alias is that a name finds. Assumes nothing.
-use Prim.Native.Nat.{ℕ, zero, suc, ◌-◌, ◌<◌}
+use Prim.Native.Nat.{ℕ, suc, ◌<◌}
 use mathlib.Core.Path.{◌≡◌, refl, sym, ap, ◌∙◌}
 use mathlib.Core.List.{List}
 use mathlib.Core.Bool.{true, false}
@@ -24,12 +24,8 @@ use Rattle.reader.proofs.Fetching.{part_behind, not_missing}
 use Rattle.view.proofs.Places.{at_same, at_not, at_place}
 use Rattle.findings.specs.Meaning.{unfound, through_alias}
 use Rattle.meanings.specs.Scopes.{RightAlias, Ready}
-use Rattle.meanings.specs.declared.AliasAt.{AliasAt}
+use Rattle.std.specs.Prelude.{Option, Some, None}
 use Rattle.meanings.proofs.Ended.{slots_past}
-
-one_less : (f : ℕ) → (f ≡ 0 → ⊥) → f ≡ suc (f - 1)
-one_less zero h = absurd (h refl)
-one_less (suc f) h = omega arith
 
 no_alias : (x : Slot) → (slot_kind x ≡ 7 → ⊥) → (f : Alias → ℕ) → through_alias x f ≡ unfound
 no_alias (alias a) h f = absurd (h refl)
@@ -72,39 +68,36 @@ holds ed names s x kind body end e k =
       target_read = z.here ∙ ap (λ (a : Alias). done a.target z.middle) g.0;
     }
 
-module _ (s starts : List ℕ) (f : Frame) (finds : List ℕ) (ready : Ready s starts f finds) (n found : ℕ) (e : found ≡ get_or finds n 0) where
-  found_is : found ≡ get_or (schema_of f.edition s).finds n 0
-  found_is = e ∙ ready.holds.entry n
-
-  pub alias_none : found ≡ 0 → RightAlias f.names (schema_of f.edition s) s n AliasAt.Nothing
+module _ (s starts : List ℕ) (f : Frame) (finds : List ℕ) (ready : Ready s starts f finds) (n : ℕ) where
+  pub alias_none : get_or finds n 0 ≡ 0 → RightAlias f.names (schema_of f.edition s) s n None
   unfolding RightAlias
-  alias_none z g = rw (sym found_is ∙ z)
+  alias_none z g = rw (sym (ready.holds.entry n) ∙ z)
 
-  module _ (z : found ≡ 0 → ⊥) where
-    slot_is_lem : get_or (schema_of f.edition s).finds n 0 ≡ suc (found - 1)
-    slot_is_lem = sym found_is ∙ one_less found z
+  module _ (slot : ℕ) (e : get_or finds n 0 ≡ suc slot) where
+    finds_slot : get_or (schema_of f.edition s).finds n 0 ≡ suc slot
+    finds_slot = sym (ready.holds.entry n) ∙ e
 
-    there : found - 1 < f.slots
-    there = go (dec_lt (found - 1) f.slots)
+    there : slot < f.slots
+    there = go (dec_lt slot f.slots)
       where
-        go : Dec (found - 1 < f.slots) → found - 1 < f.slots
+        go : Dec (slot < f.slots) → slot < f.slots
         go (yes l) = l
         go (no l) =
-            absurd (not_empty (ready.promise.found n (found - 1) slot_is_lem) (slots_past (schema_of f.edition s) (found - 1) (omega (arith, ready.promise.count))))
+            absurd (not_empty (ready.promise.found n slot finds_slot) (slots_past (schema_of f.edition s) slot (omega (arith, ready.promise.count))))
 
-    pub alias_missing : Part.Missing ≡ part_at s starts (found - 1) → (o : AliasAt) → RightAlias f.names (schema_of f.edition s) s n o
-    alias_missing p o = absurd (not_missing s starts f ready.promise (found - 1) there (sym p))
+    pub alias_missing : Part.Missing ≡ part_at s starts slot → (o : Option (ℕ × ℕ)) → RightAlias f.names (schema_of f.edition s) s n o
+    alias_missing p o = absurd (not_missing s starts f ready.promise slot there (sym p))
 
-    module _ (kind body : ℕ) (p : Part.At kind body ≡ part_at s starts (found - 1)) where
-      behind : Behind f.edition f.names s (slot_of (schema_of f.edition s) (found - 1)) kind body
-      behind = part_behind s starts f ready.promise (found - 1) there kind body (sym p)
+    module _ (kind body : ℕ) (p : Part.At kind body ≡ part_at s starts slot) where
+      behind : Behind f.edition f.names s (slot_of (schema_of f.edition s) slot) kind body
+      behind = part_behind s starts f ready.promise slot there kind body (sym p)
 
-      pub alias_other : (kind ≡ 7 → ⊥) → RightAlias f.names (schema_of f.edition s) s n AliasAt.Nothing
+      pub alias_other : (kind ≡ 7 → ⊥) → RightAlias f.names (schema_of f.edition s) s n None
       unfolding RightAlias
-      alias_other h g = rw slot_is_lem (no_alias (slot_of (schema_of f.edition s) (found - 1)) (λ q. h (sym behind.kind_is ∙ q)) g)
+      alias_other h g = rw finds_slot (no_alias (slot_of (schema_of f.edition s) slot) (λ q. h (sym behind.kind_is ∙ q)) g)
 
       module _ (k : kind ≡ 7) where
-        parts_of_lem : Held f.names s (slot_of (schema_of f.edition s) (found - 1)) body
+        parts_of_lem : Held f.names s (slot_of (schema_of f.edition s) slot) body
         parts_of_lem = let b = behind in holds f.edition f.names s _ kind body b.end b.reads k
 
         module _ (r : Next) (c : (role : Role) → r ≡ follow (Next.At body) (λ q. next (read (counted (number role f.names)) s q))) where
@@ -112,22 +105,22 @@ module _ (s starts : List ℕ) (f : Frame) (finds : List ℕ) (ready : Ready s s
           unfolding follow
           reached = c name ∙ ap next parts_of_lem.parameters_read
 
-          pub alias_at_lem : (target : ℕ) → r ≡ Next.At target → RightAlias f.names (schema_of f.edition s) s n (AliasAt.At body target)
+          pub alias_at_lem : (target : ℕ) → r ≡ Next.At target → RightAlias f.names (schema_of f.edition s) s n (Some (body, target))
           unfolding RightAlias
           alias_at_lem target q =
               let t = parts_of_lem in (
-                found - 1,
+                slot,
                 t.held,
                 t.middle,
                 t.end,
-                slot_is_lem,
+                finds_slot,
                 t.slot_is,
                 t.parameters_read,
                 at_place (expression_at f.names) s t.target_read (at_same q reached),
               )
 
-          pub alias_cut : (x y : ℕ) → r ≡ Next.Refused x y → (o : AliasAt) → RightAlias f.names (schema_of f.edition s) s n o
+          pub alias_cut : (x y : ℕ) → r ≡ Next.Refused x y → (o : Option (ℕ × ℕ)) → RightAlias f.names (schema_of f.edition s) s n o
           alias_cut x y q o = absurd (at_not q reached)
 
-pub alias_told : (names : ℕ) (S : Schema) (s : List ℕ) (n : ℕ) {r o : AliasAt} → r ≡ o → RightAlias names S s n r → RightAlias names S s n o
+pub alias_told : (names : ℕ) (S : Schema) (s : List ℕ) (n : ℕ) {r o : Option (ℕ × ℕ)} → r ≡ o → RightAlias names S s n r → RightAlias names S s n o
 alias_told names S s n e h = rw (← e) h

@@ -1,10 +1,11 @@
 -- Parameters and their arguments: what the place of an argument says, and what the look-up has at each of its steps. Assumes
 -- nothing.
-use Prim.Native.Nat.{ℕ, zero, suc, ◌-◌, ◌≤◌, ◌<◌}
+use Prim.Native.Nat.{ℕ, zero, suc, ◌+◌, ◌-◌, ◌≤◌, ◌<◌, min}
 use mathlib.Core.Path.{◌≡◌, refl, sym, ap, subst, ◌∙◌}
 use mathlib.Core.List.{List, [], ◌∷◌}
 use mathlib.Core.Bool.{Bool, true, false, cond}
 use native.Mathlib.Omega.{arith}
+use native.Mathlib.Decide.{dec_le}
 use lib.Dec.{eqb}
 use borrow.Author.Tests.{eq-eqb, ne_eqb}
 use Rattle.number.specs.Grammar.{name, count, Grammar, ◌>>=◌, number, many, counted, Outcome, done, refused, and_then, below, read}
@@ -90,10 +91,10 @@ module _ (names : ℕ) (s : List ℕ) (n : ℕ) where
     pub types_left : read (many (more - 1) (type_at names)) s b ≡ done types k
     pub place : At ps start arguments ≡ cond (eqb first n) (Found.At a) (At others b (more - 1))
 
-  fronts : {ps : List ℕ} {start arguments m k : ℕ} (left p more a : ℕ) → Rest ps start arguments m k left p more a → 0 < left → (more ≡ 0 → ⊥)
+  fronts : {ps : List ℕ} {start arguments m k : ℕ} (left p more a : ℕ) → Rest ps start arguments m k left p more a → 0 < left → 0 < more
       → Fronts ps start arguments m k left p more a
   fronts zero p more a i h g = absurd (omega arith)
-  fronts (suc left) p zero a i h g = absurd (g refl)
+  fronts (suc left) p zero a i h g = absurd (omega arith)
   fronts (suc left) p (suc more) a i h g =
       let x = front (number name names) s left p i.others _ i.names_read in
       let y = front (type_at names) s more a i.types _ i.types_read in
@@ -114,60 +115,63 @@ module _ (names : ℕ) (s : List ℕ) (n : ℕ) where
       }
 
   module _ (first count start arguments : ℕ) where
-    -- if both runs were read
-    abbrev pub Left : (left p more a : ℕ) → Type 0
-    Left left p more a =
+    -- if both runs were read: behind `i` of each
+    abbrev pub Left : (i p a : ℕ) → Type 0
+    Left i p a =
         (ps : List ℕ) (ts : List Tree) (m k : ℕ) → read (many count (number name names)) s first ≡ done ps m
-        → read (many arguments (type_at names)) s start ≡ done ts k → Rest ps start arguments m k left p more a
+        → read (many arguments (type_at names)) s start ≡ done ts k → Rest ps start arguments m k (count - i) p (arguments - i) a
 
-    pub at_start : Left count first arguments start
-    at_start ps ts m k e f = record { others = ps; types = ts; names_read = e; types_read = f; place = refl }
+    pub at_start : Left 0 first start
+    at_start ps ts m k e f =
+        let d : count - 0 ≡ count = omega arith in
+        let d' : arguments - 0 ≡ arguments = omega arith in
+        record { others = ps; types = ts; names_read = rw d e; types_read = rw d' f; place = rw d' refl }
 
-    module _ (left p more a : ℕ) (i : Left left p more a) where
-      pub no_name : left ≤ 0 → RightArgumentIn names s first count start arguments n Found.Nothing
+    module _ (i p a : ℕ) (l : Left i p a) where
+      pub no_more : min count arguments ≤ i → RightArgumentIn names s first count start arguments n Found.Nothing
       unfolding argument_place
-      no_name h ps ts m k e f =
-          let j = i ps ts m k e f in
-          sym (j.place ∙ ap (λ (l : List ℕ). At l a more) (none_left (number name names) s left p j.others m h j.names_read))
-
-      pub no_type : more ≡ 0 → RightArgumentIn names s first count start arguments n Found.Nothing
-      unfolding argument_place
-      no_type h ps ts m k e f = let j = i ps ts m k e f in sym (j.place ∙ ap (At j.others a) h ∙ none j.others)
+      no_more h ps ts m k e f = let j = l ps ts m k e f in sym (j.place ∙ go j (dec_le count i))
         where
-          none : (l : List ℕ) → At l a 0 ≡ Found.Nothing
+          none : (qs : List ℕ) → At qs a 0 ≡ Found.Nothing
           none [] = refl
-          none (x ∷ l) = refl
+          none (x ∷ qs) = refl
 
-      module _ (h : 0 < left) (g : more ≡ 0 → ⊥) where
+          go : (j : Rest ps start arguments m k (count - i) p (arguments - i) a) → Dec (count ≤ i) → At j.others a (arguments - i) ≡ Found.Nothing
+          go j (yes c) = ap (λ (qs : List ℕ). At qs a (arguments - i)) (none_left (number name names) s (count - i) p j.others m (omega arith) j.names_read)
+          go j (no c) = let d : arguments - i ≡ 0 = omega arith in rw d (none j.others)
+
+      module _ (h : i < min count arguments) where
+        here : {ps : List ℕ} {ts : List Tree} {m k : ℕ} → read (many count (number name names)) s first ≡ done ps m → read (many arguments (type_at names)) s start ≡ done ts k
+            → Fronts ps start arguments m k (count - i) p (arguments - i) a
+        here {ps} {ts} {m} {k} e f = fronts (count - i) p (arguments - i) a (l ps ts m k e f) (omega arith) (omega arith)
+
         pub name_not : (r z : ℕ) → below names s p ≡ refused r z → (o : Found) → RightArgumentIn names s first count start arguments n o
-        name_not r z w o ps ts m k e f =
-            let x = fronts left p more a (i ps ts m k e f) h g in
-            absurd (not_done w x.name_read)
+        name_not r z w o ps ts m k e f = absurd (not_done w (here e f).name_read)
 
         module _ (v q : ℕ) (w : below names s p ≡ done v q) where
           pub is_here : v ≡ n → RightArgumentIn names s first count start arguments n (Found.At a)
           is_here z ps ts m k e f =
-              let x = fronts left p more a (i ps ts m k e f) h g in
+              let x = here e f in
               let y : x.first ≡ n = (given (sym x.name_read ∙ w)).0 ∙ z in
               sym (x.place ∙ rw (eq-eqb _ _ y))
 
-          pub one_on : (v ≡ n → ⊥) → (b : ℕ) → Next.At b ≡ next (read (type_at names) s a) → Left (left - 1) q (more - 1) b
+          pub one_on : (v ≡ n → ⊥) → (b : ℕ) → Next.At b ≡ next (read (type_at names) s a) → Left (i + 1) q b
           one_on z b u ps ts m k e f =
-              let x = fronts left p more a (i ps ts m k e f) h g in
+              let x = here e f in
               let y = given (sym x.name_read ∙ w) in
               let c : x.b ≡ b = at_same (ap next x.type_read) (sym u) in
+              let d : count - (i + 1) ≡ count - i - 1 = omega arith in
+              let d' : arguments - (i + 1) ≡ arguments - i - 1 = omega arith in
               record {
                 others = x.others;
                 types = x.types;
-                names_read = rw (← y.1) x.names_left;
-                types_read = rw (← c) x.types_left;
-                place = x.place ∙ rw (ne_eqb _ _ (λ o. z (sym y.0 ∙ o)), c);
+                names_read = rw (d, ← y.1) x.names_left;
+                types_read = rw (d', ← c) x.types_left;
+                place = rw d' (x.place ∙ rw (ne_eqb _ _ (λ o. z (sym y.0 ∙ o)), c));
               }
 
           pub type_not : (r z : ℕ) → Next.Refused r z ≡ next (read (type_at names) s a) → (o : Found) → RightArgumentIn names s first count start arguments n o
-          type_not r z u o ps ts m k e f =
-              let x = fronts left p more a (i ps ts m k e f) h g in
-              absurd (at_not (sym u) (ap next x.type_read))
+          type_not r z u o ps ts m k e f = absurd (at_not (sym u) (ap next (here e f).type_read))
 
 -- names behind their count
 module _ (names : ℕ) (s : List ℕ) (at n c q : ℕ) (w : below 65537 s at ≡ done c q) where

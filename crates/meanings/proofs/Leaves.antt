@@ -53,16 +53,6 @@ RightMeaning names s finds places scope kind v r =
 abbrev pub RightValue : (names : ℕ) → (s : List ℕ) → (at : ℕ) → Value → Type 0
 RightValue names s at r = (t : Tree) (end : ℕ) → read (type_at names) s at ≡ done t end → r ≡ value_of t
 
-pub found_none : {f : ℕ} → f ≡ 0 → 4294967295 ≡ id_found f
-found_none e = rw e
-
-pub found_some : {f g : ℕ} → f ≡ g → (g ≡ 0 → ⊥) → g - 1 ≡ id_found f
-found_some {f} {g} e h = rw e (go g h)
-  where
-    go : (x : ℕ) → (x ≡ 0 → ⊥) → x - 1 ≡ id_found x
-    go zero h = absurd (h refl)
-    go (suc x) h = omega arith
-
 resolved_is : (S : Schema) (finds : List ℕ) → FindsHold S finds → (n v : ℕ) → v ≡ id_found (get_or finds n 0) → leaf (named (resolved S n)) ≡ leaf (named v)
 unfolding resolved
 resolved_is S finds h n v e = ap (λ (x : ℕ). leaf (named x)) (ap id_found (sym (h.entry n)) ∙ sym e)

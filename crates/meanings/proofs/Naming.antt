@@ -21,7 +21,7 @@ use Rattle.meanings.specs.Rank.{rank_of}
 use Rattle.meanings.specs.Places.{AtNames}
 use Rattle.meanings.specs.Scopes.{Stands, KnownIn, RightAlias, RightLeaf, RightName, Asked}
 use Rattle.meanings.specs.declared.Scope.{Scope}
-use Rattle.meanings.specs.declared.AliasAt.{AliasAt}
+use Rattle.std.specs.Prelude.{Some, None}
 use Rattle.meanings.proofs.Heights.{target_below, argument_below}
 use Rattle.meanings.proofs.Ended.{alias_ranked}
 
@@ -105,7 +105,7 @@ module _ (s starts : List ℕ) (f : Frame) (finds places : List ℕ) (at levels 
   name_refused r n o x = absurd (parts Expression f.names s at levels some_level _ x a.tree a.end a.reads)
 
   module _ (v n : ℕ) (x : Shape (Head.Generic v n)) where
-    pub name_none : RightAlias f.names (schema_of f.edition s) s v AliasAt.Nothing → Right (Value.Id 4294967295)
+    pub name_none : RightAlias f.names (schema_of f.edition s) s v None → Right (Value.Id 4294967295)
     unfolding substitute value_of leaf_value RightAlias
     name_none w ps ts st e end q chain l =
         let p = parts Expression f.names s at levels some_level _ x e end q in
@@ -134,7 +134,7 @@ module _ (s starts : List ℕ) (f : Frame) (finds places : List ℕ) (at levels 
         let z = rank_read f levels s at a.tree a.end a.reads ∙ ap (rank_of (schema_of f.edition s)) p.1 in
         omega (arith, argument_below (schema_of f.edition s) v p.0)
 
-    module _ (list target : ℕ) (w : RightAlias f.names (schema_of f.edition s) s v (AliasAt.At list target)) where
+    module _ (list target : ℕ) (w : RightAlias f.names (schema_of f.edition s) s v (Some (list, target))) where
       pub target_asked : (inner : Value) (inside : Scope) → inside ≡ Scope.One list inner → Asked s starts f finds places target 32 inside
       unfolding RightAlias
       target_asked inner inside q =

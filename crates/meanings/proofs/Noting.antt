@@ -195,12 +195,11 @@ looked_noted {names} {levels} {s} {at} {list} {start} {arguments} a small before
 -- ## The code's steps
 
 module _ (names : ℕ) (s : List ℕ) (kind v parameters start arguments : ℕ) (before after : List ℕ) where
-  -- the count is the look-up's own
-  pub look_name : kind ≡ 3 → (found : Found) → RightArgument names s parameters start arguments v found → (n count : ℕ) → n ≡ 1 → count ≡ n
-      → after ≡ set before v (code_of found) → RightLeafLook names s kind v parameters start arguments before after count
+  pub look_name : kind ≡ 3 → (found : Found) → RightArgument names s parameters start arguments v found → after ≡ set before v (code_of found)
+      → RightLeafLook names s kind v parameters start arguments before after 1
   unfolding occurs
-  look_name e found h n count q same g ps ts b l k v-is =
-      rw (leaf_3 l v (k ∙ e) v-is) (same ∙ q, g ∙ ap (λ (x : Found). set before v (code_of x)) (h ps ts b))
+  look_name e found h g ps ts b l k v-is =
+      rw (leaf_3 l v (k ∙ e) v-is) (refl, g ∙ ap (λ (x : Found). set before v (code_of x)) (h ps ts b))
 
   pub look_other : (kind ≡ 3 → ⊥) → after ≡ before → RightLeafLook names s kind v parameters start arguments before after 0
   unfolding occurs

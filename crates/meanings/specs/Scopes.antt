@@ -1,5 +1,5 @@
 -- What names stand for in the code's scopes, and what its answers on leaves, aliases and expressions say.
-use Rattle.std.specs.Prelude.{ℕ, suc, ◌≤◌, ◌≡◌, List, [], ◌∷◌, Bool, false, cond, eqb, get_or}
+use Rattle.std.specs.Prelude.{ℕ, suc, ◌≤◌, ◌≡◌, List, [], ◌∷◌, Bool, false, cond, eqb, get_or, Option, Some, None}
 use Rattle.number.specs.Grammar.{name, count, Grammar, ◌>>=◌, number, many, counted, Outcome, done, refused, read}
 use Rattle.tree.specs.Tree.{Tree, Leaf, leaf, leaf_kind, leaf_number}
 use Rattle.tree.specs.TreeAt.{Node, none, one, two, sized, tree_at}
@@ -18,7 +18,6 @@ use Rattle.meanings.specs.Places.{found_of, AtNames, Known, Sound}
 use Rattle.meanings.specs.declared.Scope.{Scope}
 use Rattle.meanings.specs.declared.Meaning.{Meaning}
 use Rattle.meanings.specs.declared.Found.{Found}
-use Rattle.meanings.specs.declared.AliasAt.{AliasAt}
 
 -- a table of what each name finds
 pub record FindsHold (S : Schema) (finds : List ℕ) : Type 0 where
@@ -74,13 +73,13 @@ unfoldable pub KnownIn : Scope → (places : List ℕ) → Tree → Type 0
 KnownIn Scope.Types places e = AtNames (Known places) e
 KnownIn (Scope.One p v) places e = Unit {0}
 
--- where the alias is that a name finds
-unfoldable pub RightAlias : (names : ℕ) → Schema → (s : List ℕ) → (n : ℕ) → AliasAt → Type 0
-RightAlias names S s n (AliasAt.At p q) =
+-- where the alias is that a name finds: its parameters, and its target
+unfoldable pub RightAlias : (names : ℕ) → Schema → (s : List ℕ) → (n : ℕ) → Option (ℕ × ℕ) → Type 0
+RightAlias names S s n (Some (p, q)) =
     (i : ℕ) × (a : Alias) × (m : ℕ) × (end : ℕ)
     × (get_or S.finds n 0 ≡ suc i) × (slot_of S i ≡ alias a)
     × (read (counted (number name names)) s p ≡ done a.parameters m) × (read (expression_at names) s q ≡ done a.target end)
-RightAlias names S s n AliasAt.Nothing =
+RightAlias names S s n None =
     (f : Alias → ℕ) → through_alias (slot_found S (get_or S.finds n 0)) f ≡ unfound
 
 -- the contracts

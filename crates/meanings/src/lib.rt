@@ -42,20 +42,6 @@ pub enum Found {
     Nothing,
 }
 
-// One look-up among parameters: where the argument stands, and the count 1.
-#[derive(Clone, Copy)]
-pub struct LookUp {
-    pub found: Found,
-    pub count: u64,
-}
-
-// Where an alias has its parameters, and where its target.
-#[derive(Clone, Copy)]
-pub enum AliasAt {
-    At(usize, usize),
-    Nothing,
-}
-
 // How many names were looked up, and the position after the expression.
 #[derive(Clone, Copy)]
 pub struct Looked {
@@ -63,48 +49,25 @@ pub struct Looked {
     pub next: usize,
 }
 
-fn widen_find(find: u16) -> u64
-    ensures { result ≡ find }
-{
-    find as u64
-}
-
 // What a name finds, 0 past the table's end.
 fn find(finds: &[u16], n: u64) -> u64
     ensures { result ≡ get_or finds.now n 0 }
 {
-    let i = n as usize;
-    if i < finds.len() {
-        widen_find(finds[i])
-    } else {
-        0
-    }
-}
-
-fn widen_place(place: u32) -> u64
-    ensures { result ≡ place }
-{
-    place as u64
+    finds.get(n as usize).copied().map_or(0, u64::from)
 }
 
 // Where a name's argument stands, 0 past the table's end.
 fn place(places: &[u32], n: u64) -> u64
     ensures { result ≡ get_or places.now n 0 }
 {
-    let i = n as usize;
-    if i < places.len() {
-        widen_place(places[i])
-    } else {
-        0
-    }
+    places.get(n as usize).copied().map_or(0, u64::from)
 }
 
 // The id that a name is resolved to.
 fn resolve(finds: &[u16], n: u64) -> u64
     ensures { result ≡ id_found (get_or finds.now n 0) }
 {
-    let found = find(finds, n);
-    if found == 0 { 4294967295 } else { found - 1 }
+    find(finds, n).checked_sub(1).unwrap_or(4294967295)
 }
 
 // Whether a name is the first of the parameters that stand at a place.
@@ -112,15 +75,11 @@ fn is_first(image: &[u8], at: usize, names: u64, n: u64) -> bool
     ensures { result ≡ is_first n (read (first_at names) image.now at) }
 {
     match number::read_below(image, at, 65537) {
-        Ranged::Value(count, first) => {
-            if count == 0 {
-                return false;
-            }
-            match number::read_below(image, first, names) {
-                Ranged::Value(v, _) => v == n,
-                Ranged::Refused(_, q) => false,
-            }
-        }
+        Ranged::Value(0, _) => false,
+        Ranged::Value(_, first) => match number::read_below(image, first, names) {
+            Ranged::Value(v, _) => v == n,
+            Ranged::Refused(_, q) => false,
+        },
         Ranged::Refused(_, place) => false,
     }
 }
@@ -137,53 +96,33 @@ fn argument_in(
 ) -> Found
     ensures { RightArgumentIn names image.now first count start arguments n result }
 {
-    let mut left = count;
-    let mut more = arguments;
     let mut p = first;
     let mut a = start;
-    while 0 < left {
-        if more == 0 {
+    for _ in 0..count.min(arguments) {
+        let Ranged::Value(v, after) = number::read_below(image, p, names) else {
             return Found::Nothing;
+        };
+        if v == n {
+            return Found::At(a);
         }
-        match number::read_below(image, p, names) {
-            Ranged::Value(v, after) => {
-                if v == n {
-                    return Found::At(a);
-                }
-                match tree::read_tree(image, a, 32, Sort::Resolved, names) {
-                    Next::At(b) => {
-                        p = after;
-                        a = b;
-                        left -= 1;
-                        more -= 1;
-                    }
-                    Next::Refused(_, q) => {
-                        return Found::Nothing;
-                    }
-                }
-            }
-            Ranged::Refused(_, q) => {
-                return Found::Nothing;
-            }
-        }
+        let Next::At(b) = tree::read_tree(image, a, 32, Sort::Resolved, names) else {
+            return Found::Nothing;
+        };
+        p = after;
+        a = b;
     }
     Found::Nothing
 }
 
 // Looks a name up: the parameters stand at one place behind their count, the types from another on.
-fn argument(image: &[u8], params: usize, start: usize, arguments: u64, names: u64, n: u64) -> LookUp
-    ensures one { result.count ≡ 1 }
-    ensures right { RightArgument names image.now params start arguments n result.found }
+fn argument(image: &[u8], params: usize, start: usize, arguments: u64, names: u64, n: u64) -> Found
+    ensures { RightArgument names image.now params start arguments n result }
 {
     match number::read_below(image, params, 65537) {
         Ranged::Value(count, first) => {
-            let found = argument_in(image, first, count, start, arguments, names, n);
-            LookUp { found, count: 1 }
+            argument_in(image, first, count, start, arguments, names, n)
         }
-        Ranged::Refused(_, q) => LookUp {
-            found: Found::Nothing,
-            count: 1,
-        },
+        Ranged::Refused(_, q) => Found::Nothing,
     }
 }
 
@@ -197,7 +136,7 @@ fn code_of(found: Found) -> u32
     }
 }
 
-// A name past the table's end is left out.
+// A name past the table's end is left out. By index: what a slice holds after `get_mut` is not known to the proof.
 fn put(places: &mut [u32], n: u64, found: Found)
     ensures { places.new ≡ set places.old n (code_of found) }
 {
@@ -206,16 +145,6 @@ fn put(places: &mut [u32], n: u64, found: Found)
     if i < places.len() {
         places[i] = code;
     }
-}
-
-// Notes what a look-up found, and hands its count on.
-fn note(places: &mut [u32], n: u64, looked: LookUp) -> u64
-    ensures count { result ≡ looked.count }
-    ensures table { places.new ≡ set places.old n (code_of looked.found) }
-{
-    let found = looked.found;
-    put(places, n, found);
-    looked.count
 }
 
 // Looks a leaf up, if it is a plain name: the count of look-ups, 1 or 0.
@@ -232,13 +161,12 @@ fn look_up_leaf(
     ensures small { result ≤ 1 }
     ensures right { RightLeafLook names image.now kind v params start arguments places.old places.new result }
 {
-    match kind {
-        3 => {
-            let looked = argument(image, params, start, arguments, names, v);
-            note(places, v, looked)
-        }
-        _ => 0,
+    if kind != 3 {
+        return 0;
     }
+    let found = argument(image, params, start, arguments, names, v);
+    put(places, v, found);
+    1
 }
 
 // Looks up the plain names of an expression, in the arguments of generics too, each occurrence once.
@@ -270,8 +198,9 @@ pub fn look_up(
         }
         Head::Two(_, body) => {
             let a = look_up(image, body, inside, names, params, start, arguments, places);
-            let next = a.next;
-            let b = look_up(image, next, inside, names, params, start, arguments, places);
+            let b = look_up(
+                image, a.next, inside, names, params, start, arguments, places,
+            );
             Looked {
                 count: a.count + b.count,
                 next: b.next,
@@ -279,8 +208,7 @@ pub fn look_up(
         }
         Head::Sized(body) => {
             let a = look_up(image, body, inside, names, params, start, arguments, places);
-            let next = a.next;
-            match number::read_whole(image, next) {
+            match number::read_whole(image, a.next) {
                 Ranged::Value(_, end) => Looked {
                     count: a.count,
                     next: end,
@@ -316,14 +244,12 @@ fn parameter_meaning(
             }
         }
         Scope::One(list, value) => {
-            let first = is_first(image, list, names, n);
-            if first {
-                match value {
-                    Value::Id(i) => Meaning::Id(i),
-                    Value::NotName => Meaning::NotName,
-                }
-            } else {
-                Meaning::Id(resolve(finds, n))
+            if !is_first(image, list, names, n) {
+                return Meaning::Id(resolve(finds, n));
+            }
+            match value {
+                Value::Id(i) => Meaning::Id(i),
+                Value::NotName => Meaning::NotName,
             }
         }
     }
@@ -386,26 +312,24 @@ fn leaf_value(
 }
 
 // Where the alias is that a name finds: its parameters at the slot's body, the target behind them.
-fn alias_of(image: &[u8], starts: &[usize], frame: Frame, finds: &[u16], n: u64) -> AliasAt
+fn alias_of(
+    image: &[u8],
+    starts: &[usize],
+    frame: Frame,
+    finds: &[u16],
+    n: u64,
+) -> Option<(usize, usize)>
     requires { Ready image.now starts.now frame finds.now }
     ensures { RightAlias frame.names (schema_of frame.edition image.now) image.now n result }
 {
-    let found = find(finds, n);
-    if found == 0 {
-        return AliasAt::Nothing;
-    }
-    let slot = (found - 1) as usize;
-    match view::slot_part(image, starts, slot) {
-        Part::At(kind, body) => {
-            if kind != 7 {
-                return AliasAt::Nothing;
-            }
-            match number::skip_counted(image, Next::At(body), frame.names) {
-                Next::At(target) => AliasAt::At(body, target),
-                Next::Refused(_, q) => AliasAt::Nothing,
-            }
-        }
-        Part::Missing => AliasAt::Nothing,
+    let slot = find(finds, n).checked_sub(1)?;
+    match view::slot_part(image, starts, slot as usize) {
+        Part::At(7, body) => match number::skip_counted(image, Next::At(body), frame.names) {
+            Next::At(target) => Some((body, target)),
+            Next::Refused(_, q) => None,
+        },
+        Part::At(_, _) => None,
+        Part::Missing => None,
     }
 }
 
@@ -442,12 +366,12 @@ pub fn name_of(
         Head::Generic(name, body) => {
             let inner = name_of(image, starts, frame, finds, places, body, levels - 1, scope);
             match alias_of(image, starts, frame, finds, name) {
-                AliasAt::At(list, target) => {
+                Some((list, target)) => {
                     let inside = Scope::One(list, inner);
                     let meant = name_of(image, starts, frame, finds, places, target, 32, inside);
                     name_or_unfound(meant)
                 }
-                AliasAt::Nothing => Value::Id(4294967295),
+                None => Value::Id(4294967295),
             }
         }
         Head::Refused(_, q) => Value::NotName,

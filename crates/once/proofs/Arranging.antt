@@ -1,10 +1,10 @@
 -- The slots in order, by the tables that the code fills. Assumes nothing.
-use Prim.Native.Nat.{ℕ, zero, suc, ◌*◌, ◌-◌, ◌≤◌, ◌<◌}
+use Prim.Native.Nat.{ℕ, zero, suc, ◌*◌, ◌≤◌, ◌<◌}
 use mathlib.Core.Path.{◌≡◌, refl, sym, ap, subst, ◌∙◌}
 use mathlib.Core.List.{List, ◌∷◌}
 use mathlib.Core.Bool.{Bool, false}
 use native.Mathlib.Omega.{arith}
-use lib.ListN.{length, get_or, take, drop, replicate}
+use lib.ListN.{length, get_or, take, replicate}
 use borrow.Author.Tests.{lt-ltb}
 use Rattle.graph.specs.Ways.{Leads}
 use Rattle.graph.specs.Table.{grid, blank}
@@ -21,13 +21,10 @@ use Rattle.once.specs.Once.{Arranges}
 use Rattle.once.specs.declared.Arranged.{Arranged}
 
 -- a part of a table with nothing in it
-pub blank_part : (n k : ℕ) → n ≤ k → take (n - 0) (drop 0 (replicate k false)) ≡ replicate n false
-blank_part n k h = let z : n - 0 ≡ n = omega arith in rw z (go n k h)
-  where
-    go : (n k : ℕ) → n ≤ k → take n (replicate k false) ≡ replicate n false
-    go zero k h = refl
-    go (suc n) zero h = absurd (omega arith)
-    go (suc n) (suc k) h = ap (λ (t : List Bool). false ∷ t) (go n k (omega arith))
+pub blank_part : (n k : ℕ) → n ≤ k → take n (replicate k false) ≡ replicate n false
+blank_part zero k h = refl
+blank_part (suc n) zero h = absurd (omega arith)
+blank_part (suc n) (suc k) h = ap (λ (t : List Bool). false ∷ t) (blank_part n k (omega arith))
 
 -- what a table without marks has once it is filled
 filled_is : {before after : List ℕ} (e : Leads) {n : ℕ} → before ≡ replicate (length before) 0 → Filled before e n after → n * 8 ≤ length before → n ≤ 512

@@ -36,7 +36,7 @@ pub fn arrange_slots(
     let count = frame.slots as usize;
     marks::mark_starts(image, starts, frame, declared);
     marks::mark_parts(image, starts, frame, leads);
-    match reach::arrange(leads, count, declared, &mut seen[0..count], stack, order) {
+    match reach::arrange(leads, count, declared, &mut seen[..count], stack, order) {
         Walked::Done(sorted) => Arranged::Order(sorted),
         Walked::Back(_) => match reach::lowest_back(leads, count, declared) {
             Lowest::At(slot) => Arranged::Loop(slot),
@@ -58,12 +58,9 @@ pub fn work_all(
     requires { Prepared image.now starts.now (frame_of scope) rows.now answers.old order.now sorted }
     ensures { AllWorked scope.layout (schema_of scope.edition image.now) scope.slots answers.new result }
 {
-    let mut visits: u64 = 0;
-    let mut k: usize = 0;
-    while k < sorted {
-        let slot = order[k] as usize;
-        visits += level::work_slot(image, starts, scope, rows, answers, slot);
-        k += 1;
+    let mut visits = 0;
+    for slot in &order[..sorted] {
+        visits += level::work_slot(image, starts, scope, rows, answers, usize::from(*slot));
     }
     visits
 }

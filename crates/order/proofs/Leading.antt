@@ -1,6 +1,6 @@
 -- Bare names that lead on: of a type, a field, fields, a slot, and the slots in their order. Assumes nothing.
 use Prim.Native.Nat.{ℕ, suc, ◌+◌, ◌-◌, ◌≤◌, ◌<◌, zero}
-use mathlib.Core.Path.{◌≡◌, refl, sym, ap, ◌∙◌}
+use mathlib.Core.Path.{◌≡◌, refl, sym, ap, ap₂, ◌∙◌}
 use mathlib.Core.List.{List, [], ◌∷◌}
 use mathlib.Core.Bool.{Bool, true, false, cond}
 use mathlib.Core.Logic.{inl, inr, ⊎_elim}
@@ -9,6 +9,10 @@ use native.Mathlib.Numerals.{add-one}
 use lib.Dec.{ltb}
 use lib.ListN.{length, drop, get_or-eq_default}
 use lib.Seq.{drop-nil, drop-cons}
+use Rattle.std.proofs.Common.{Some, None}
+use Rattle.std.specs.Bool.{then_some}
+use Rattle.std.specs.Option.{is_some}
+use Rattle.std.specs.declared.option.Option.{Option}
 use types.Run.{OneOf}
 use denote.Enum.Declared.{tag_of}
 use borrow.Author.Tests.{ltb-true, ltb-false, lt-ltb, le-ltb}
@@ -38,6 +42,7 @@ use Rattle.view.proofs.Places.{inner_stands, type_stands}
 use Rattle.view.proofs.Taking.{placed}
 use Rattle.view.proofs.Fetching.{Behind, body_at}
 use Rattle.order.specs.Order.{holds_bare, rank, leads_on, bare_leaf, bare_type, bare_fields, bare_slot, in_order, ordered, is_ordered}
+use Rattle.order.specs.Steps.{PassesTyped}
 
 -- ## A name
 
@@ -87,12 +92,12 @@ module _ (up : Bool) (i j : ℕ) where
         go (trait m) h = absurd (⊎_elim (λ e. omega arith) (λ e. omega arith) h)
         go (impl m) h = absurd (⊎_elim (λ e. omega arith) (λ e. omega arith) h)
 
-    pub leads_free : (k : ℕ) → slot_kind (slot_of S j) ≡ k → (OneOf (1 ∷ 5 ∷ []) k → ⊥) → true ≡ leads_on up S i j
-    leads_free k e h = free (go (slot_of S j) e)
+    pub leads_free : (k : ℕ) → slot_kind (slot_of S j) ≡ k → (k ≡ 1 → ⊥) → (k ≡ 5 → ⊥) → true ≡ leads_on up S i j
+    leads_free k e h i = free (go (slot_of S j) e)
       where
         go : (x : Slot) → slot_kind x ≡ k → holds_bare x ≡ false
-        go (message m) q = absurd (h (inl (sym q)))
-        go (newtype n) q = absurd (h (inr (sym q)))
+        go (message m) q = absurd (h (sym q))
+        go (newtype n) q = absurd (i (sym q))
         go empty q = refl
         go (enum m) q = refl
         go (flags m) q = refl
@@ -123,18 +128,31 @@ module _ (test : ℕ → Bool) where
   leaf_other (bits_inline ns) k a h = refl
   leaf_other (qualified n) k a h = refl
 
+-- what `then_some` gave
+some_is : (b : Bool) (n m : ℕ) → Some n ≡ then_some b m → (b ≡ true) × (n ≡ m)
+some_is true n m e = (refl, cc)
+some_is false n m e = absurd cc
+
+none_is : (b : Bool) (m : ℕ) → None ≡ then_some b m → b ≡ false
+none_is true m e = absurd cc
+none_is false m e = refl
+
+is_some_is : (b : Bool) (m : ℕ) → is_some (then_some b m) ≡ b
+is_some_is true m = refl
+is_some_is false m = refl
+
 module _ (test : ℕ → Bool) (names : ℕ) (s : List ℕ) where
-  -- what is answered of the type at a place, and the position after it
-  abbrev pub LedType : (at : ℕ) → Bool → ℕ → Type 0
-  LedType at ok n = (t : Tree) (end : ℕ) → read (type_at names) s at ≡ done t end → (ok ≡ bare_type test t) × (n ≡ end)
+  -- the position after the type at a place, if it passes the test
+  abbrev pub PassesType : (at : ℕ) → Option ℕ → Type 0
+  PassesType at r = (t : Tree) (end : ℕ) → read (type_at names) s at ≡ done t end → r ≡ then_some (bare_type test t) end
 
   module _ (at : ℕ) where
-    pub led_leaf : (k g v n : ℕ) (ok : Bool) → shape (read (head_at Resolved names) s at) ≡ Head.Leaf k g v n
-        → ((l : Leaf) → leaf_kind l ≡ k → leaf_number l ≡ v → ok ≡ bare_leaf test l) → LedType at ok n
+    pub pass_leaf : (k g v n : ℕ) (ok : Bool) → shape (read (head_at Resolved names) s at) ≡ Head.Leaf k g v n
+        → ((l : Leaf) → leaf_kind l ≡ k → leaf_number l ≡ v → ok ≡ bare_leaf test l) → (r : Option ℕ) → r ≡ then_some ok n → PassesType at r
     unfolding bare_type
-    led_leaf k g v n ok q w t end e =
+    pass_leaf k g v n ok q w r f t end e =
         let p = parts Resolved names s at 32 (λ z. omega arith) _ q t end e in
-        (w p.0 p.2 p.4 ∙ sym (ap (bare_type test) p.1), p.5)
+        f ∙ ap₂ (λ (b : Bool) (m : ℕ). then_some b m) (w p.0 p.2 p.4 ∙ sym (ap (bare_type test) p.1)) p.5
 
     -- the type at a place is no bare name that fails the test
     abbrev pub Passes : Type 0
@@ -157,6 +175,14 @@ module _ (test : ℕ → Bool) (names : ℕ) (s : List ℕ) where
     not_leaf (Head.Generic v n) h q t end e = let p = parts Resolved names s at 32 (λ z. omega arith) _ q t end e in ap (bare_type test) p.1
     not_leaf (Head.Refused r n) h q t end e = absurd (parts Resolved names s at 32 (λ z. omega arith) _ q t end e)
 
+    pub no_leaf : (x : Head) → ((k g v n : ℕ) → x ≡ Head.Leaf k g v n → ⊥) → shape (read (head_at Resolved names) s at) ≡ x → Passes
+    no_leaf (Head.Leaf k g v n) h q = absurd (h k g v n refl)
+    no_leaf (Head.One k n) h q = not_leaf _ (inl refl) q
+    no_leaf (Head.Two k n) h q = not_leaf _ (inr (inl refl)) q
+    no_leaf (Head.Sized n) h q = not_leaf _ (inr (inr (inl refl))) q
+    no_leaf (Head.Generic v n) h q = not_leaf _ (inr (inr (inr (inl refl)))) q
+    no_leaf (Head.Refused r n) h q = not_leaf _ (inr (inr (inr (inr refl)))) q
+
     -- a kind that is not a name's
     pub not_name : (k n : ℕ) → below 17 s at ≡ done k n → (k ≡ 3 → ⊥) → Passes
     unfolding bare_type
@@ -173,8 +199,8 @@ module _ (test : ℕ → Bool) (names : ℕ) (s : List ℕ) where
         go (done (applied v) m) f = not_leaf _ (inr (inr (inr (inl refl)))) (ap shape f) t end e
         go (refused r p) f = not_leaf _ (inr (inr (inr (inr refl)))) (ap shape f) t end e
 
-    pub led_other : Passes → (a : Next) (n : ℕ) → a ≡ next (read (type_at names) s at) → n ≡ place_of a → LedType at true n
-    led_other h a n f w t end e = (sym (h t end e), placed w (f ∙ ap next e))
+    pub pass_other : Passes → (a : Next) (n : ℕ) → a ≡ next (read (type_at names) s at) → n ≡ place_of a → PassesType at (Some n)
+    pass_other h a n f w t end e = rw (h t end e) (ap Some (placed w (f ∙ ap next e)))
 
 -- ## A field
 
@@ -190,73 +216,95 @@ module _ (ed : Edition) (names : ℕ) (s : List ℕ) (at : ℕ) where
       (y.2, ap (read (type_at names) s) (placed w y.1) ∙ y.3, y.4)
 
 module _ (test : ℕ → Bool) (ed : Edition) (names : ℕ) (s : List ℕ) (at : ℕ) where
-  -- what is answered of the field at a place, and where its limit stands
-  abbrev pub LedTyped : Bool → ℕ → Type 0
-  LedTyped ok n = (x : Field) (end : ℕ) → read (field_at ed names) s at ≡ done x end → (ok ≡ bare_type test x.type) × (read (limit_at ed) s n ≡ done x.limit end)
+  -- the position between the type of the field at a place and its limit, if it passes the test
+  abbrev pub PassesUpTo : Option ℕ → Type 0
+  PassesUpTo r = (x : Field) (end : ℕ) → read (field_at ed names) s at ≡ done x end → PassesTyped test ed s x end r
 
   -- and the position after the field
-  abbrev pub LedField : Bool → ℕ → Type 0
-  LedField ok n = (x : Field) (end : ℕ) → read (field_at ed names) s at ≡ done x end → (ok ≡ bare_type test x.type) × (n ≡ end)
+  abbrev pub PassesField : Option ℕ → Type 0
+  PassesField r = (x : Field) (end : ℕ) → read (field_at ed names) s at ≡ done x end → r ≡ then_some (bare_type test x.type) end
 
-  pub led_long : (p : ℕ) (ok : Bool) (n : ℕ) → TypeAt ed names s at p → LedType test names s p ok n → LedTyped ok n
-  led_long p ok n w i x end e =
-      let y = w x end e in
-      let r = i x.type y.0 y.1 in
-      (r.0, ap (read (limit_at ed) s) r.1 ∙ y.2)
+  pub pass_long : (p : ℕ) (r : Option ℕ) → TypeAt ed names s at p → PassesType test names s p r → PassesUpTo r
+  pass_long p r w i x end e = let y = w x end e in (y.0, i x.type y.0 y.1, y.2)
 
-  pub led_short : (g k v : ℕ) (ok : Bool) → short_at names s at ≡ Short.Is g k v
-      → ((l : Leaf) → leaf_kind l ≡ k → leaf_number l ≡ v → ok ≡ bare_leaf test l) → LedTyped ok (at + 4)
+  pub pass_short : (g k v : ℕ) (ok : Bool) → short_at names s at ≡ Short.Is g k v
+      → ((l : Leaf) → leaf_kind l ≡ k → leaf_number l ≡ v → ok ≡ bare_leaf test l) → (r : Option ℕ) → r ≡ then_some ok (at + 4) → PassesUpTo r
   unfolding bare_type
-  led_short g k v ok q w x end e =
+  pass_short g k v ok q w o f x end e =
       let y = then_done (read (limit_at ed) s (at + 4)) _ (sym (short_reads names s at g k v q ed) ∙ e) in
       let r = given y.3 in (
-        w (short_leaf k v) (short_kind names s at g k v q) (short_number names s at g k v q) ∙ ap (λ (z : Field). bare_type test z.type) r.0,
+        at + 4,
+        f ∙ ap (λ (b : Bool). then_some b (at + 4)) (w (short_leaf k v) (short_kind names s at g k v q) (short_number names s at g k v q) ∙ ap (λ (z : Field). bare_type test z.type) r.0),
         y.2 ∙ ap (λ (z : Field). done z.limit y.1) r.0 ∙ ap (done x.limit) r.1,
       )
 
   -- past the limit
-  pub led_field : (ok : Bool) (n : ℕ) → LedTyped ok n → (l : Next) (m : ℕ) → l ≡ follow (Next.At n) (λ k. next (read (limit_at ed) s k)) → m ≡ place_of l → LedField ok m
+  pub pass_limit : (n : ℕ) → PassesUpTo (Some n) → (l : Next) (m : ℕ) → l ≡ follow (Next.At n) (λ k. next (read (limit_at ed) s k)) → m ≡ place_of l → PassesField (Some m)
   unfolding follow
-  led_field ok n i l m f w x end e = let r = i x end e in (r.0, placed w (f ∙ ap next r.1))
+  pass_limit n i l m f w x end e =
+      let t = i x end e in
+      let r = some_is (bare_type test x.type) n t.0 t.1 in
+      rw r.0 (ap Some (placed w (f ∙ ap (λ (k : ℕ). next (read (limit_at ed) s k)) r.1 ∙ ap next t.2)))
 
 -- ## One field after another
 
--- `left` of `count` fields are still to come at p, and the answer is theirs
-pub record Left (test : ℕ → Bool) (ed : Edition) (names : ℕ) (s : List ℕ) (count at left p : ℕ) : Type 0 where
+-- so many of `count` fields passed the test, and the answer is that of the others, still to come at p
+pub record Run (test : ℕ → Bool) (ed : Edition) (names : ℕ) (s : List ℕ) (count at passed p : ℕ) : Type 0 where
   pub whole : (fs : List Field) (end : ℕ) → read (many count (field_at ed names)) s at ≡ done fs end
-      → (gs : List Field) × (read (many left (field_at ed names)) s p ≡ done gs end) × (bare_fields test fs ≡ bare_fields test gs)
+      → (gs : List Field) × (read (many (count - passed) (field_at ed names)) s p ≡ done gs end) × (bare_fields test fs ≡ bare_fields test gs)
 
 module _ (test : ℕ → Bool) (ed : Edition) (names : ℕ) (s : List ℕ) where
   module _ (count at : ℕ) where
-    pub left_start : Left test ed names s count at count at
-    left_start = record { whole = λ fs end e. (fs, e, refl) }
+    pub run_start : Run test ed names s count at 0 at
+    run_start = let d : count - 0 ≡ count = omega arith in record { whole = λ fs end e. (fs, rw d e, refl) }
 
-    module _ (left p : ℕ) (l : Left test ed names s count at left p) where
-      module _ (h : 0 < left) (ok : Bool) (n : ℕ) (i : LedField test ed names s p ok n) where
-        -- the answer after the field at p
-        on : (fs : List Field) (end : ℕ) → read (many count (field_at ed names)) s at ≡ done fs end
-            → (gs : List Field) × (read (many (left - 1) (field_at ed names)) s n ≡ done gs end) × (bare_fields test fs ≡ cond ok (bare_fields test gs) false)
+    module _ (passed p : ℕ) (l : Run test ed names s count at passed p) where
+      module _ (h : passed < count) where
+        -- the field at p, and the answer by it
+        record Next_field (fs : List Field) (end : ℕ) : Type 0 where
+          field : Field
+          middle : ℕ
+          here : read (field_at ed names) s p ≡ done field middle
+          others : List Field
+          rest : read (many (count - (passed + 1)) (field_at ed names)) s middle ≡ done others end
+          answer : bare_fields test fs ≡ cond (bare_type test field.type) (bare_fields test others) false
+
+        next_field : (fs : List Field) (end : ℕ) → read (many count (field_at ed names)) s at ≡ done fs end → Next_field fs end
         unfolding bare_fields
-        on fs end e =
-            let d : left ≡ suc (left - 1) = omega arith in
+        next_field fs end e =
+            let d : count - passed ≡ suc (count - (passed + 1)) = omega arith in
             let a = l.whole fs end e in
-            let w = front (field_at ed names) s (left - 1) p a.0 end (rw d at a.1) in
-            let q = i w.first w.middle w.here in (
-              w.others,
-              ap (read (many (left - 1) (field_at ed names)) s) q.1 ∙ w.rest,
-              a.2 ∙ ap (bare_fields test) w.whole ∙ ap (λ (b : Bool). cond b (bare_fields test w.others) false) (sym q.0),
-            )
+            let w = front (field_at ed names) s (count - (passed + 1)) p a.0 end (rw d at a.1) in
+            record {
+              field = w.first;
+              middle = w.middle;
+              here = w.here;
+              others = w.others;
+              rest = w.rest;
+              answer = a.2 ∙ ap (bare_fields test) w.whole;
+            }
 
-        pub left_on : ok ≡ true → Left test ed names s count at (left - 1) n
-        left_on q = record { whole = λ fs end e. let a = on fs end e in (a.0, a.1, a.2 ∙ ap (λ (b : Bool). cond b (bare_fields test a.0) false) q) }
+        pub run_on : (n : ℕ) → PassesField test ed names s p (Some n) → Run test ed names s count at (passed + 1) n
+        run_on n i =
+            record {
+              whole = λ fs end e.
+                  let a = next_field fs end e in
+                  let r = some_is (bare_type test a.field.type) n a.middle (i a.field a.middle a.here) in (
+                    a.others,
+                    ap (read (many (count - (passed + 1)) (field_at ed names)) s) r.1 ∙ a.rest,
+                    a.answer ∙ ap (λ (b : Bool). cond b (bare_fields test a.others) false) r.0,
+                  );
+            }
 
-        pub left_stop : ok ≡ false → (fs : List Field) (end : ℕ) → read (many count (field_at ed names)) s at ≡ done fs end → false ≡ bare_fields test fs
-        left_stop q fs end e = let a = on fs end e in sym (a.2 ∙ ap (λ (b : Bool). cond b (bare_fields test a.0) false) q)
+        pub run_stop : PassesField test ed names s p None → (fs : List Field) (end : ℕ) → read (many count (field_at ed names)) s at ≡ done fs end → false ≡ bare_fields test fs
+        run_stop i fs end e =
+            let a = next_field fs end e in
+            sym (a.answer ∙ ap (λ (b : Bool). cond b (bare_fields test a.others) false) (none_is (bare_type test a.field.type) a.middle (i a.field a.middle a.here)))
 
-      pub left_end : left ≤ 0 → (fs : List Field) (end : ℕ) → read (many count (field_at ed names)) s at ≡ done fs end → true ≡ bare_fields test fs
+      pub run_end : count ≤ passed → (fs : List Field) (end : ℕ) → read (many count (field_at ed names)) s at ≡ done fs end → true ≡ bare_fields test fs
       unfolding many read bare_fields
-      left_end h fs end e =
-          let d : left ≡ 0 = omega arith in
+      run_end h fs end e =
+          let d : count - passed ≡ 0 = omega arith in
           let a = l.whole fs end e in
           sym (a.2 ∙ ap (bare_fields test) (sym (given (rw d at a.1)).0))
 
@@ -283,12 +331,12 @@ module _ (test : ℕ → Bool) (ed : Edition) (names : ℕ) (s : List ℕ) (x : 
       let m = made_of s message (message_at ed names) body x b.end (body_at b 1 e) in
       i m.held.fields b.end (w ed names m.held b.end m.reads) ∙ sym (ap (bare_slot test) m.slot_is)
 
-  pub slot_newtype : kind ≡ 5 → (r : Bool) (n : ℕ) → LedType test names s body r n → r ≡ bare_slot test x
+  pub slot_newtype : kind ≡ 5 → (r : Option ℕ) → PassesType test names s body r → is_some r ≡ bare_slot test x
   unfolding slot_body_at bare_slot
-  slot_newtype e r n i =
+  slot_newtype e r i =
       let m = made_of s newtype (newtype_at names) body x b.end (body_at b 5 e) in
       let k = inner_stands s names body m.held b.end m.reads in
-      (i m.held.inner k.0 k.1).0 ∙ sym (ap (bare_slot test) m.slot_is)
+      ap is_some (i m.held.inner k.0 k.1) ∙ is_some_is (bare_type test m.held.inner) k.0 ∙ sym (ap (bare_slot test) m.slot_is)
 
   pub slot_other : (kind ≡ 1 → ⊥) → (kind ≡ 5 → ⊥) → true ≡ bare_slot test x
   unfolding bare_slot

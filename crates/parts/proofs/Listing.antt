@@ -4,6 +4,9 @@ use mathlib.Core.Path.{◌≡◌, refl, sym, ap, ap₂, ◌∙◌}
 use mathlib.Core.List.{List, [], ◌∷◌, ◌++◌}
 use native.Mathlib.Omega.{arith}
 use mathlib.Core.Bool.{Bool}
+use mathlib.Core.Logic.{by_cases}
+use native.Mathlib.Decide.{ℕ_discrete}
+use lib.Dec.{eqb}
 use lib.ListN.{set, length}
 use borrow.Author.Tests.{eq-eqb, ne_eqb, lt-ltb, le-ltb}
 use Rattle.number.specs.Grammar.{Grammar, ◌>>=◌, many, counted, too_deep, done, refused, below, read}
@@ -21,7 +24,7 @@ use Rattle.slot.specs.Slot.{Slot, empty, message, enum, flags, union, newtype, c
 use Rattle.slot.proofs.Whole.{made_of}
 use Rattle.slot.specs.declared.Edition.{Edition}
 use Rattle.view.specs.Take.{place_of}
-use Rattle.view.proofs.Places.{at_same, at_not, inner_stands, type_stands}
+use Rattle.view.proofs.Places.{inner_stands, type_stands}
 use Rattle.view.proofs.Taking.{placed}
 use Rattle.view.proofs.Fetching.{Behind, body_at}
 use Rattle.parts.specs.Names.{all_of, leaf_names, type_names, field_names, variant_names, slot_names, is_message}
@@ -47,13 +50,9 @@ module _ (kind number top : ℕ) (t : Filled) where
   unfolding leaf_names push_all
   leaf_in a b = simp (eq-eqb kind 3 a, lt-ltb number 512 b)
 
-  pub leaf_past : kind ≡ 3 → 512 ≤ number → t ≡ push_all (leaf_names kind number top) t
+  pub leaf_out : (kind ≡ 3 → 512 ≤ number) → t ≡ push_all (leaf_names kind number top) t
   unfolding leaf_names push_all
-  leaf_past a b = simp (eq-eqb kind 3 a, le-ltb number 512 b)
-
-  pub leaf_not : (kind ≡ 3 → ⊥) → t ≡ push_all (leaf_names kind number top) t
-  unfolding leaf_names push_all
-  leaf_not a = simp (ne_eqb kind 3 a)
+  leaf_out a = by_cases (ℕ_discrete kind 3) (λ e. simp (eq-eqb kind 3 e, le-ltb number 512 (a e))) (λ e. simp (ne_eqb kind 3 e))
 
 -- ## A type
 
@@ -135,13 +134,9 @@ module _ (names : ℕ) (s : List ℕ) (at levels top : ℕ) (x : Filled) where
         let w = i.listed p.0 p.1 p.4 in
         (w.0 ∙ sym (ap (λ (u : Tree). push_all (type_names top u) x) p.3), p.2, ap (below (2 ^ 64) s) w.1 ∙ p.5)
 
-    pub list_sized : (n a v r : ℕ) (y : Filled) → Shape (Head.Sized n) → Below n x y a → below (2 ^ 64) s a ≡ done v r → Listed y r
-    list_sized n a v r y q i f =
-        record { listed = λ t end e. let w = sized_listed n a y q i t end e in (w.0, (given (sym f ∙ w.2)).1) }
-
-    pub list_unsized : (n a b p r : ℕ) (y : Filled) → Shape (Head.Sized n) → Below n x y a → below (2 ^ 64) s a ≡ refused b p → Listed y r
-    list_unsized n a b p r y q i f =
-        record { listed = λ t end e. let w = sized_listed n a y q i t end e in absurd (not_done f w.2) }
+    pub list_sized : (n a r : ℕ) (l : Next) (y : Filled) → Shape (Head.Sized n) → Below n x y a → l ≡ next (below (2 ^ 64) s a) → r ≡ place_of l → Listed y r
+    list_sized n a r l y q i f g =
+        record { listed = λ t end e. let w = sized_listed n a y q i t end e in (w.0, placed g (f ∙ ap next w.2)) }
 
     pub list_refused : (r q n : ℕ) (y : Filled) → Shape (Head.Refused r q) → Listed y n
     list_refused r q n y w = record { listed = λ t end e. absurd (parts Resolved names s at levels h _ w t end e) }
@@ -155,13 +150,10 @@ module _ (names : ℕ) (s : List ℕ) (at : ℕ) where
       → (n : ℕ) × (read (type_at names) s p ≡ done x.type n) × (read (limit_at ed) s n ≡ done x.limit end)
 
   module _ (a b : Next) (p : a ≡ next (below names s at)) (q : b ≡ follow a (λ n. next (read (encoding_at 32) s n))) where
-    pub type_at_lem : (k : ℕ) → b ≡ Next.At k → TypeAt k
+    pub type_at_lem : (k : ℕ) → k ≡ place_of b → TypeAt k
     type_at_lem k e ed x end r =
         let w = type_stands s ed names at x end r a b p q in
-        (w.2, ap (read (type_at names) s) (at_same e w.1) ∙ w.3, w.4)
-
-    pub type_not : (r i k : ℕ) → b ≡ Next.Refused r i → TypeAt k
-    type_not r i k e ed x end f = absurd (at_not e (type_stands s ed names at x end f a b p q).1)
+        (w.2, ap (read (type_at names) s) (placed e w.1) ∙ w.3, w.4)
 
   -- a field, from where its type stands, and the limit behind it
   pub list_field : (ed : Edition) (top p n : ℕ) (x y : Filled) → TypeAt p → Lists (levels_at names 32) (type_names top) s p x y n
@@ -177,27 +169,27 @@ module _ (names : ℕ) (s : List ℕ) (at : ℕ) where
 
 -- ## One thing after another
 
--- `left` of `count` things are still to come at p: what is listed so far and they are the whole run
-pub record Left {A : Type 0} (g : Grammar A) (f : A → List ℕ) (s : List ℕ) (count at : ℕ) (x : Filled) (left p : ℕ) (y : Filled) : Type 0 where
+-- so many of `count` things are listed, and the others still to come at p: together they are the whole run
+pub record Run {A : Type 0} (g : Grammar A) (f : A → List ℕ) (s : List ℕ) (count at : ℕ) (x : Filled) (passed p : ℕ) (y : Filled) : Type 0 where
   pub whole : (xs : List A) (end : ℕ) → read (many count g) s at ≡ done xs end
-      → (ys : List A) × (read (many left g) s p ≡ done ys end) × (push_all (all_of f ys) y ≡ push_all (all_of f xs) x)
+      → (ys : List A) × (read (many (count - passed) g) s p ≡ done ys end) × (push_all (all_of f ys) y ≡ push_all (all_of f xs) x)
 
 module _ {A : Type 0} (g : Grammar A) (f : A → List ℕ) (s : List ℕ) where
   module _ (count at : ℕ) (x : Filled) where
-    pub left_start : Left g f s count at x count at x
-    left_start = record { whole = λ xs end e. (xs, e, refl) }
+    pub run_start : Run g f s count at x 0 at x
+    run_start = let d : count - 0 ≡ count = omega arith in record { whole = λ xs end e. (xs, rw d e, refl) }
 
-    pub left_on : (left p n : ℕ) (y z : Filled) → 0 < left → Lists g f s p y z n → Left g f s count at x left p y → Left g f s count at x (left - 1) n z
+    pub run_on : (passed p n : ℕ) (y z : Filled) → passed < count → Lists g f s p y z n → Run g f s count at x passed p y → Run g f s count at x (passed + 1) n z
     unfolding all_of
-    left_on left p n y z h i l =
+    run_on passed p n y z h i l =
         record {
           whole = λ xs end e.
-              let d : left ≡ suc (left - 1) = omega arith in
+              let d : count - passed ≡ suc (count - (passed + 1)) = omega arith in
               let a = l.whole xs end e in
-              let w = front g s (left - 1) p a.0 end (rw d at a.1) in
+              let w = front g s (count - (passed + 1)) p a.0 end (rw d at a.1) in
               let q = i.listed w.first w.middle w.here in (
                 w.others,
-                ap (read (many (left - 1) g) s) q.1 ∙ w.rest,
+                ap (read (many (count - (passed + 1)) g) s) q.1 ∙ w.rest,
                 ap (push_all (all_of f w.others)) q.0
                     ∙ push_append (f w.first) (all_of f w.others) y
                     ∙ sym (ap (λ (u : List A). push_all (all_of f u) y) w.whole)
@@ -205,12 +197,12 @@ module _ {A : Type 0} (g : Grammar A) (f : A → List ℕ) (s : List ℕ) where
               );
         }
 
-    pub left_end : (left p : ℕ) (y : Filled) → left ≤ 0 → Left g f s count at x left p y → Lists (many count g) (all_of f) s at x y p
+    pub run_end : (passed p : ℕ) (y : Filled) → count ≤ passed → Run g f s count at x passed p y → Lists (many count g) (all_of f) s at x y p
     unfolding many read all_of push_all
-    left_end left p y h l =
+    run_end passed p y h l =
         record {
           listed = λ xs end e.
-              let d : left ≡ 0 = omega arith in
+              let d : count - passed ≡ 0 = omega arith in
               let a = l.whole xs end e in
               let k = given (rw d at a.1) in
               (ap (λ (u : List A). push_all (all_of f u) y) k.0 ∙ a.2, k.1);
@@ -272,5 +264,5 @@ module _ (ed : Edition) (names : ℕ) (s : List ℕ) (x : Slot) (kind body : ℕ
   no_names (trait m) e h i j = record { listed = refl; marked = refl }
   no_names (impl m) e h i j = record { listed = refl; marked = refl }
 
-  pub list_other : (kind ≡ 1 → ⊥) → (kind ≡ 4 → ⊥) → (kind ≡ 5 → ⊥) → ListsSlot x t t Bool.false
-  list_other h i j = no_names x b.kind_is h i j
+  pub list_other : (kind ≡ 1 → ⊥) → (kind ≡ 4 → ⊥) → (kind ≡ 5 → ⊥) → ListsSlot x t t (eqb kind 1)
+  list_other h i j = rw (ne_eqb kind 1 h) (no_names x b.kind_is h i j)

@@ -175,7 +175,3 @@ module _ (s starts : List ℕ) (f : Frame) (messages₀ : List Bool) (first₀ b
           tabled = subst (λ (y : List Slot). Tabled y (set messages i m) (set first (i + 1) used') before parts') (sym next_slot)
               (subst (λ (n : ℕ). Tabled (take i (schema_of f.edition s).slots ++ (slot_of (schema_of f.edition s) i ∷ [])) (set messages n m) (set first (n + 1) used') before parts') so_long w);
         }
-
-  pub sofar_end : (messages : List Bool) (first parts : List ℕ) (used i : ℕ) → f.slots ≤ i → Sofar s f messages first before parts used i → Tabled (schema_of f.edition s).slots messages first before parts
-  sofar_end messages first parts used i h t =
-      subst (λ (y : List Slot). Tabled y messages first before parts) (take_all i (schema_of f.edition s).slots (omega (arith, p.promise.count))) t.tabled

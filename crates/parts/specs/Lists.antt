@@ -8,6 +8,7 @@ use Rattle.tree.specs.declared.Sort.TheVariants.{Resolved}
 use Rattle.slot.specs.Slot.{Slot, empty}
 use Rattle.image.specs.declared.Frame.{Frame}
 use Rattle.reader.specs.Promise.{Promise}
+use Rattle.parts.specs.declared.Names.{Names}
 use Rattle.parts.specs.Names.{all_of, slot_names, is_message}
 
 -- a table, of which so many places are used
@@ -17,6 +18,9 @@ pub record Filled : Type 0 where
 
 abbrev pub filled : List ℕ → ℕ → Filled
 filled l u = record { places = l; used = u }
+
+abbrev pub table : Names → Filled
+table n = filled n.parts.now n.used
 
 -- a table that is full stays as it is
 unfoldable pub push : ℕ → Filled → Filled

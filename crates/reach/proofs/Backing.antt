@@ -1,19 +1,19 @@
 -- The search for a start that is or leads to a number. Assumes nothing.
-use Prim.Native.Nat.{ℕ, ◌+◌, ◌*◌, ◌<◌, ◌≤◌}
+use Prim.Native.Nat.{ℕ, zero, suc, ◌+◌, ◌*◌, ◌<◌, ◌≤◌}
 use native.Mathlib.Omega.{arith}
-use native.Mathlib.Numerals.{add-one}
-use mathlib.Core.Path.{◌≡◌, sym}
+use native.Mathlib.Numerals.{unary_clauses}
+use mathlib.Core.Path.{◌≡◌, refl, sym, ap, ◌∙◌}
 use mathlib.Core.List.{List}
-use mathlib.Core.Bool.{Bool, true, false, ◌&&◌, ◌||◌, or-true, and-false}
-use borrow.Author.Tests.{eq-eqb, ne_eqb}
+use mathlib.Core.Bool.{Bool, true, false, ◌&&◌, ◌||◌, or-false, or_assoc, and-false}
 use lib.ListN.{length, get_or}
 use lib.Dec.{eqb}
+use Rattle.std.specs.List.{list_any, range_with_len}
 use Rattle.graph.specs.Ways.{via, lowest}
 use Rattle.graph.specs.Loops.{lowest_same}
 use Rattle.graph.specs.Table.{grid, Closed}
 use Rattle.graph.proofs.Rows.{ways}
 use Rattle.reach.specs.Back.{any_below, is_from, leading_back}
-use Rattle.reach.proofs.Ordered.{any_same, any_at}
+use Rattle.reach.proofs.Ordered.{any_same}
 
 -- by a table: s is a start, and is or leads to i
 abbrev pub hits : (rows : List ℕ) (starts : List Bool) (i : ℕ) → ℕ → Bool
@@ -23,20 +23,17 @@ hits rows starts i s = get_or starts s false && (eqb s i || grid rows s i)
 abbrev pub back_at : (rows : List ℕ) (starts : List Bool) (n : ℕ) → ℕ → Bool
 back_at rows starts n i = any_below (hits rows starts i) n && grid rows i i
 
-module _ (rows : List ℕ) (starts : List Bool) (i n s : ℕ) where
-  pub hit_own : s < n → get_or starts s false ≡ true → s ≡ i → true ≡ any_below (hits rows starts i) n
-  hit_own b h q = sym (any_at (hits rows starts i) n s b (rw (h, eq-eqb s i q)))
+-- one number after the other
+any_more : (p : ℕ → Bool) (a n : ℕ) → list_any p (range_with_len a (suc n)) ≡ (list_any p (range_with_len a n) || p (a + n))
+any_more p a zero = simp unary_clauses (or-false (p a))
+any_more p a (suc n) =
+    ap (λ (b : Bool). p a || b) (any_more p (a + 1) n) ∙ sym (or_assoc (p a) (list_any p (range_with_len (a + 1) n)) (p (a + 1 + n)))
+    ∙ ap (λ (k : ℕ). (p a || list_any p (range_with_len (a + 1) n)) || p k) (omega arith)
 
-  pub hit_led : s < n → get_or starts s false ≡ true → grid rows s i ≡ true → true ≡ any_below (hits rows starts i) n
-  hit_led b h q = sym (any_at (hits rows starts i) n s b (rw (h, q) (or-true (eqb s i))))
-
-  pub no_start : any_below (hits rows starts i) s ≡ false → get_or starts s false ≡ false → any_below (hits rows starts i) (s + 1) ≡ false
-  unfolding any_below
-  no_start p h = rw (add-one, p, h)
-
-  pub no_way : any_below (hits rows starts i) s ≡ false → (s ≡ i → ⊥) → grid rows s i ≡ false → any_below (hits rows starts i) (s + 1) ≡ false
-  unfolding any_below
-  no_way p h q = rw (add-one, p, ne_eqb s i h, q) (and-false (get_or starts s false))
+pub any_in_order : (p : ℕ → Bool) (n : ℕ) → list_any p (range_with_len 0 n) ≡ any_below p n
+unfolding any_below
+any_in_order p zero = refl
+any_in_order p (suc n) = any_more p 0 n ∙ rw (any_in_order p n) (ap (λ (k : ℕ). any_below p n || p k) (omega arith))
 
 -- what the closed table says is what is asked
 pub closed_back : (m m' : List ℕ) (starts : List Bool) (n : ℕ) → n * 8 ≤ length m → n ≤ 512 → Closed m n n m' → lowest (back_at m' starts n) n 0 ≡ leading_back (grid m) n starts

@@ -30,7 +30,7 @@ use Rattle.parts.specs.Lists.{Listable, Tabled}
 use Rattle.parts.proofs.Tabling.{all_fit}
 use Rattle.walks.specs.Walk.{Held, Countable, Counted}
 use Rattle.walks.proofs.Holding.{held}
-use Rattle.recursion.specs.Recursion.{Ready, Checked, Roomy, Tables, FindingAt}
+use Rattle.recursion.specs.Recursion.{Ready, Checked, Tables, FindingAt}
 
 -- ## The finding of a message
 
@@ -45,27 +45,15 @@ finding_is s body i o n l k t u ed names m end e =
 
 -- ## Findings that are alike
 
--- `left` of `more` findings are still to come, and n are in the table or would be
-pub record Putting (before : List ℕ) (count : ℕ) (x : Finding) (more left n : ℕ) (now : List ℕ) : Type 0 where
-  pub put : ℕ
-  pub rest : put + left ≡ more
-  pub adds : Adds put before now count n (replicate put x)
+module _ (before : List ℕ) (count : ℕ) (x : Finding) where
+  pub put_start : Adds (count - count) before before count count (replicate (count - count) x)
+  put_start = let z : count - count ≡ 0 = omega arith in rw z (adds_none 0 before count)
 
-module _ (before : List ℕ) (count : ℕ) (x : Finding) (more : ℕ) where
-  pub put_start : Putting before count x more more count before
-  put_start = record { put = 0; rest = omega arith; adds = adds_none 0 before count }
-
-  module _ (left n : ℕ) (now : List ℕ) (p : Putting before count x more left n now) where
-    pub put_on : 0 < left → (after : List ℕ) → after ≡ sets now (6 * n) (rows_of (x ∷ [])) → Putting before count x more (left - 1) (n + 1) after
-    put_on h after f =
-        record {
-          put = p.put + 1;
-          rest = omega (arith, p.rest);
-          adds = adds_same (p.put + 1) (omega arith) (sym (replicate-append-replicate p.put 1 x)) (adds_then (p.put + 1) p.adds (adds_one now after n x f) (omega arith));
-        }
-
-    pub put_end : left ≤ 0 → Adds more before now count n (replicate more x)
-    put_end h = let e : more ≡ p.put = omega (arith, p.rest) in adds_same more (omega arith) (ap (λ (m : ℕ). replicate m x) e) p.adds
+  pub put_on : (n : ℕ) (now after : List ℕ) → count ≤ n → Adds (n - count) before now count n (replicate (n - count) x) → after ≡ sets now (6 * n) (rows_of (x ∷ []))
+      → Adds (n + 1 - count) before after count (n + 1) (replicate (n + 1 - count) x)
+  put_on n now after l a f =
+      let e : n + 1 - count ≡ n - count + 1 = omega arith in
+      rw e (adds_same (n - count + 1) (omega arith) (sym (replicate-append-replicate (n - count) 1 x)) (adds_then (n - count + 1) a (adds_one now after n x f) (omega arith)))
 
 -- ## A declaration
 
@@ -221,16 +209,16 @@ none_found {findings = findings} r n = record { count = ap length (sym n); table
 
 -- ## The tables
 
-pub roomy : (n : ℕ) (s starts : List ℕ) (f : Frame) (findings : List ℕ) → Ready s starts f findings → length s ≤ 2 * n → n ≤ 32768 → Roomy s starts f findings (replicate n 0)
-roomy n s starts f findings r h k = let l = length-replicate {A = ℕ} n 0 in record { ready = r; room = omega arith; few = omega arith }
+-- of an image with no more than two bytes a place
+module _ (n : ℕ) {s starts findings : List ℕ} {f : Frame} (r : Ready s starts f findings) (room : length s ≤ 2 * n) (few : n ≤ 32768) where
+  listable : Listable s starts f (replicate 512 false) (replicate 513 0) (replicate n 0)
+  listable =
+      let l = length-replicate {A = ℕ} n 0 in
+      record { promise = r.promise; marks = refl; places = refl; room = omega arith; few = omega arith }
 
-pub listable : {s starts : List ℕ} {f : Frame} {findings parts : List ℕ} → Roomy s starts f findings parts → Listable s starts f (replicate 512 false) (replicate 513 0) parts
-listable r = record { promise = r.ready.promise; marks = refl; places = refl; room = r.room; few = r.few }
-
-pub tables : {s starts : List ℕ} {f : Frame} {findings before : List ℕ} → Roomy s starts f findings before → (messages : List Bool) (first parts : List ℕ)
-    → Tabled (schema_of f.edition s).slots messages first before parts → Tables s starts f messages first parts
-tables {s} {f = f} r messages first parts t =
-    record {
-      promise = r.ready.promise;
-      held = held (schema_of f.edition s) messages first _ parts t (all_fit _ _ _ _ _ _ (listable r)) (omega (arith, r.ready.promise.few, r.ready.promise.count)) r.few;
-    }
+  pub tables : (messages : List Bool) (first parts : List ℕ) → Tabled (schema_of f.edition s).slots messages first (replicate n 0) parts → Tables s starts f messages first parts
+  tables messages first parts t =
+      record {
+        promise = r.promise;
+        held = held (schema_of f.edition s) messages first _ parts t (all_fit _ _ _ _ _ _ listable) (omega (arith, r.promise.few, r.promise.count)) (omega (arith, length-replicate {A = ℕ} n 0));
+      }

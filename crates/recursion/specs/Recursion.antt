@@ -1,5 +1,5 @@
 -- Class 1, from an accepted image to findings in a table.
-use Rattle.std.specs.Prelude.{ℕ, ◌*◌, ◌^◌, ◌≤◌, ◌≡◌, List, [], Bool, length}
+use Rattle.std.specs.Prelude.{ℕ, ◌^◌, ◌≤◌, ◌≡◌, List, [], Bool, length}
 use Rattle.number.specs.Grammar.{done, read}
 use Rattle.slot.specs.Slot.{Message, message_at}
 use Rattle.slot.specs.declared.Edition.{Edition}
@@ -22,12 +22,6 @@ pub record Checked (S : Schema) (before after : List ℕ) (r : ℕ) : Type 0 whe
   pub count : r ≡ length (endless_of S S.declared)
   pub table : after ≡ noted (length before) (endless_of S S.declared)
   pub most : r ≤ 2 ^ 27
-
--- with a place for every name: a name takes two bytes
-pub record Roomy (s starts : List ℕ) (f : Frame) (findings parts : List ℕ) : Type 0 where
-  pub ready : Ready s starts f findings
-  pub room : length s ≤ 2 * length parts
-  pub few : length parts ≤ 32768
 
 -- an accepted image, and the tables of its names
 pub record Tables (s starts : List ℕ) (f : Frame) (messages : List Bool) (first parts : List ℕ) : Type 0 where

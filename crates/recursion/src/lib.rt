@@ -1,13 +1,13 @@
 // Endless types, class 1: the declared messages that hold themselves directly.
 #![tactic(auto)]
 
-ghost use Rattle.std.specs.Prelude.{◌+◌, ◌≤◌, ◌^◌, [], ◌≡◌, length, replicate};
+ghost use Rattle.std.specs.Prelude.{◌+◌, ◌*◌, ◌≤◌, ◌^◌, [], ◌≡◌, length, replicate};
 ghost use Rattle.image.specs.Schema.{slot_of};
 ghost use Rattle.reader.specs.Reading.{schema_of};
 ghost use Rattle.findings.specs.Finding.{noted};
 ghost use Rattle.findings.specs.Adding.{Adds};
 ghost use Rattle.findings.specs.Endless.{endless_at};
-ghost use Rattle.recursion.specs.Recursion.{Ready, Checked, Roomy, Tables, FindingAt};
+ghost use Rattle.recursion.specs.Recursion.{Ready, Checked, Tables, FindingAt};
 
 use findings::Finding;
 use image::Frame;
@@ -35,14 +35,10 @@ fn put_findings(findings: &mut [u32], count: u64, more: u64, finding: Finding) -
     requires { count + more ≤ 2 ^ 32 }
     ensures { Adds more findings.old findings.new count result (replicate more finding) }
 {
-    let mut left = more;
-    let mut n = count;
-    while 0 < left {
+    for n in count..count + more {
         findings::put_finding(findings, n, finding);
-        n += 1;
-        left -= 1;
     }
-    n
+    count + more
 }
 
 // A declared slot. One that is no message, or holds itself nowhere, has no findings.
@@ -91,10 +87,9 @@ fn check_declared(
     requires { Tables image.now starts.now frame messages.now first.now parts.now × (findings.old ≡ noted (length findings.old) []) }
     ensures { Checked (schema_of frame.edition image.now) findings.old findings.new result }
 {
-    let mut left = frame.declarations;
     let mut p = frame.declared;
-    let mut count: u64 = 0;
-    while 0 < left {
+    let mut count = 0;
+    for _ in 0..frame.declarations {
         let Ranged::Value(slot, next) = number::read_below(image, p, 4294967296) else {
             return count;
         };
@@ -102,42 +97,25 @@ fn check_declared(
             image, starts, frame, messages, first, parts, slot, count, findings,
         );
         p = next;
-        left -= 1;
     }
     count
 }
 
-// With a table lent for the names.
-fn check_with(
+// With a table for so many names; a name takes two bytes of the image.
+fn check_sized<const N: usize>(
     image: &[u8],
     starts: &[usize],
     frame: Frame,
-    parts: &mut [u16],
     findings: &mut [u32],
 ) -> u64
-    requires { Roomy image.now starts.now frame findings.old parts.old }
+    requires { Ready image.now starts.now frame findings.old × (length image.now ≤ 2 * N) × (N ≤ 32768) }
     ensures { Checked (schema_of frame.edition image.now) findings.old findings.new result }
 {
     let mut messages = [false; 512];
     let mut first = [0u16; 513];
-    parts::list_slots(image, starts, frame, &mut messages, &mut first, parts);
-    check_declared(image, starts, frame, &messages, &first, parts, findings)
-}
-
-fn check_small(image: &[u8], starts: &[usize], frame: Frame, findings: &mut [u32]) -> u64
-    requires { Ready image.now starts.now frame findings.old × (length image.now ≤ 2048) }
-    ensures { Checked (schema_of frame.edition image.now) findings.old findings.new result }
-{
-    let mut parts = [0u16; 1024];
-    check_with(image, starts, frame, &mut parts, findings)
-}
-
-fn check_large(image: &[u8], starts: &[usize], frame: Frame, findings: &mut [u32]) -> u64
-    requires { Ready image.now starts.now frame findings.old }
-    ensures { Checked (schema_of frame.edition image.now) findings.old findings.new result }
-{
-    let mut parts = [0u16; 32768];
-    check_with(image, starts, frame, &mut parts, findings)
+    let mut parts = [0u16; N];
+    parts::list_slots(image, starts, frame, &mut messages, &mut first, &mut parts);
+    check_declared(image, starts, frame, &messages, &first, &parts, findings)
 }
 
 // Endless types of an accepted image: how many findings there are, and the findings, as far as the table reaches. A small
@@ -147,8 +125,8 @@ pub fn check_recursion(image: &[u8], starts: &[usize], frame: Frame, findings: &
     ensures { Checked (schema_of frame.edition image.now) findings.old findings.new result }
 {
     if image.len() <= 2048 {
-        check_small(image, starts, frame, findings)
+        check_sized::<1024>(image, starts, frame, findings)
     } else {
-        check_large(image, starts, frame, findings)
+        check_sized::<32768>(image, starts, frame, findings)
     }
 }

@@ -3,8 +3,8 @@
 // image that is answered otherwise is named; the answers are counted.
 #![tactic(auto)]
 
-ghost use Rattle.std.specs.Prelude.{◌<◌, ◌≤◌, length};
-ghost use Rattle.replay.specs.Compared.{count_of, Compared};
+ghost use Rattle.std.specs.Prelude.{◌<◌, ◌≤◌, length, IfOk, IfSome};
+ghost use Rattle.replay.specs.Compared.{Compared};
 
 use std::fs::File;
 use std::io;
@@ -17,54 +17,26 @@ enum Kind {
     Text,
 }
 
-// What the file has next: so many bytes, fewer than it says, or nothing.
-#[derive(Clone, Copy)]
-enum Part {
-    Bytes(usize),
-    Short,
-    End,
-}
-
-// What became of one image.
+// Whether an image is answered as recorded, and then with which number.
 #[derive(Clone, Copy)]
 enum Outcome {
     Same(u64),
     Differs,
-    Short,
-    End,
 }
 
-fn wide(x: u8) -> u64
-    ensures { result < 256 }
-{
-    x as u64
-}
-
-fn number4(b: [u8; 4]) -> u64 {
-    wide(b[0]) + wide(b[1]) * 256 + wide(b[2]) * 65536 + wide(b[3]) * 16777216
-}
-
-fn number8(b: [u8; 8]) -> u64 {
-    wide(b[0])
-        + wide(b[1]) * 256
-        + wide(b[2]) * 65536
-        + wide(b[3]) * 16777216
-        + wide(b[4]) * 4294967296
-        + wide(b[5]) * 1099511627776
-        + wide(b[6]) * 281474976710656
-        + wide(b[7]) * 72057594037927936
-}
+// The file has less than it says.
+#[derive(Clone, Copy)]
+struct CutOff;
 
 // Reads until the buffer is full, the file ends or a read fails. Answers how many bytes it put at the front.
 fn read_full<R: Read>(input: &mut R, buf: &mut [u8]) -> usize
     ensures { result ≤ length buf.new }
 {
-    let mut done: usize = 0;
+    let mut done = 0;
     while done < buf.len() {
         match input.read(&mut buf[done..]) {
-            Ok(0) => break,
+            Ok(0) | Err(_) => break,
             Ok(n) => done += n,
-            Err(_) => break,
         }
     }
     done
@@ -73,33 +45,32 @@ fn read_full<R: Read>(input: &mut R, buf: &mut [u8]) -> usize
 fn read4<R: Read>(input: &mut R) -> u64 {
     let mut b = [0u8; 4];
     read_full(input, &mut b);
-    number4(b)
+    u64::from(u32::from_le_bytes(b))
 }
 
 fn read8<R: Read>(input: &mut R) -> u64 {
     let mut b = [0u8; 8];
     read_full(input, &mut b);
-    number8(b)
+    u64::from_le_bytes(b)
 }
 
-// A length, and as many bytes to the front of the buffer.
-fn read_part<R: Read>(input: &mut R, buf: &mut [u8]) -> Part
-    ensures { count_of result ≤ length buf.new }
+// A length, and as many bytes to the front of the buffer; nothing at the file's end.
+fn read_part<R: Read>(input: &mut R, buf: &mut [u8]) -> Result<Option<usize>, CutOff>
+    ensures { IfOk result (λ part. IfSome part (λ n. n ≤ length buf.new)) }
 {
     let mut head = [0u8; 4];
     let got = read_full(input, &mut head);
     if got == 0 {
-        return Part::End;
+        return Ok(None);
     }
-    let n = number4(head) as usize;
+    let n = u32::from_le_bytes(head) as usize;
     if got < 4 || buf.len() < n {
-        return Part::Short;
+        return Err(CutOff);
     }
-    let read = read_full(input, &mut buf[0..n]);
-    if read != n {
-        return Part::Short;
+    if read_full(input, &mut buf[..n]) < n {
+        return Err(CutOff);
     }
-    Part::Bytes(n)
+    Ok(Some(n))
 }
 
 // Are the recorded starts those of the table? All of them are read, so that the next image follows.
@@ -107,9 +78,7 @@ fn same_starts<R: Read>(input: &mut R, starts: &[usize], count: u64) -> bool {
     let mut same = true;
     for (i, start) in starts.iter().enumerate() {
         let expected = if (i as u64) < count { read4(input) } else { 0 };
-        if expected != *start as u64 {
-            same = false;
-        }
+        same &= expected == *start as u64;
     }
     same
 }
@@ -121,13 +90,7 @@ fn compare_reading<R: Read>(input: &mut R, image: &[u8]) -> Outcome {
     let answer = vexil::vexil_read(image, &mut starts);
     let count = if number == 0 { value } else { 0 };
     let same = same_starts(input, &starts, count);
-    if answer.number != number {
-        return Outcome::Differs;
-    }
-    if answer.value != value {
-        return Outcome::Differs;
-    }
-    if same {
+    if same && answer.number == number && answer.value == value {
         Outcome::Same(number)
     } else {
         Outcome::Differs
@@ -137,18 +100,12 @@ fn compare_reading<R: Read>(input: &mut R, image: &[u8]) -> Outcome {
 fn digit(x: u8) -> u64
     ensures { result < 256 }
 {
-    if x < b'0' {
-        return 0;
-    }
-    wide(x - b'0')
+    u64::from(x.saturating_sub(b'0'))
 }
 
 // The number in "vexil-typeck 1\nrefused NUMBER PLACE\n", which is below 100; 0 for any other text.
 fn number_in(text: &[u8]) -> u64 {
-    if text.len() < 25 {
-        return 0;
-    }
-    if text[15] != b'r' {
+    if text.len() < 25 || text[15] != b'r' {
         return 0;
     }
     let first = digit(text[23]);
@@ -163,96 +120,56 @@ fn same_text(image: &[u8], text: &[u8]) -> Outcome
 {
     let mut out = [0u8; 180000];
     let used = report::report(image, &mut out);
-    if &out[0..used] == text {
+    if &out[..used] == text {
         Outcome::Same(number_in(text))
     } else {
         Outcome::Differs
     }
 }
 
-fn compare_text<R: Read>(input: &mut R, image: &[u8]) -> Outcome {
+fn compare_text<R: Read>(input: &mut R, image: &[u8]) -> Result<Outcome, CutOff> {
     let mut text = [0u8; 180000];
-    match read_part(input, &mut text) {
-        Part::Bytes(n) => same_text(image, &text[0..n]),
-        _ => Outcome::Short,
-    }
+    let n = read_part(input, &mut text)?.ok_or(CutOff)?;
+    Ok(same_text(image, &text[..n]))
 }
 
-fn compare<R: Read>(input: &mut R, kind: Kind, image: &[u8]) -> Outcome {
+fn compare<R: Read>(input: &mut R, kind: Kind, image: &[u8]) -> Result<Outcome, CutOff> {
     match kind {
-        Kind::Reading => compare_reading(input, image),
+        Kind::Reading => Ok(compare_reading(input, image)),
         Kind::Text => compare_text(input, image),
     }
 }
 
+// The next image, compared; nothing at the file's end.
+fn one<R: Read>(input: &mut R, kind: Kind, image: &mut [u8]) -> Result<Option<Outcome>, CutOff> {
+    let Some(n) = read_part(input, image)? else {
+        return Ok(None);
+    };
+    Ok(Some(compare(input, kind, &image[..n])?))
+}
+
 fn count_one(counts: &mut [u64], number: u64) {
-    if number < counts.len() as u64 {
-        let i = number as usize;
-        if counts[i] < 1000000 {
-            counts[i] += 1;
-        }
+    if let Some(count) = counts.get_mut(number as usize) {
+        *count = count.saturating_add(1);
     }
-}
-
-fn tally(counts: &mut [u64], outcome: Outcome) {
-    if let Outcome::Same(number) = outcome {
-        count_one(counts, number);
-    }
-}
-
-fn one<R: Read>(input: &mut R, kind: Kind, image: &mut [u8], counts: &mut [u64]) -> Outcome {
-    match read_part(input, image) {
-        Part::End => Outcome::End,
-        Part::Short => Outcome::Short,
-        Part::Bytes(n) => {
-            let outcome = compare(input, kind, &image[0..n]);
-            tally(counts, outcome);
-            outcome
-        }
-    }
-}
-
-fn line(rt: &impl Print, word: &[u8], n: u64) -> io::Result<()> {
-    rt.write_all(word)?;
-    println!(rt; "{n}")
-}
-
-fn note(rt: &impl Print, word: &[u8], name: &[u8], n: u64) -> io::Result<()> {
-    rt.write_all(word)?;
-    rt.write_all(name)?;
-    line(rt, b": image ", n)
-}
-
-fn differs(rt: &impl Print, name: &[u8], n: u64) -> io::Result<()> {
-    note(rt, b"differs in ", name, n)
-}
-
-fn short(rt: &impl Print, name: &[u8], n: u64) -> io::Result<()> {
-    note(rt, b"cut off in ", name, n)
 }
 
 fn totals(rt: &impl Print, kind: Kind, done: u64, wrong: u64) -> io::Result<()> {
     match kind {
         Kind::Reading => {
-            line(rt, b"images ", done)?;
-            line(rt, b"differences ", wrong)
+            println!(rt; "images {done}")?;
+            println!(rt; "differences {wrong}")
         }
         Kind::Text => {
-            line(rt, b"texts ", done)?;
-            line(rt, b"differences in texts ", wrong)
+            println!(rt; "texts {done}")?;
+            println!(rt; "differences in texts {wrong}")
         }
     }
 }
 
-fn answered(rt: &impl Print, word: &[u8], number: u64, count: u64) -> io::Result<()> {
-    rt.write_all(word)?;
-    print!(rt; "{number}")?;
-    line(rt, b": ", count)
-}
-
-fn counted(rt: &impl Print, word: &[u8], counts: &[u64]) -> io::Result<()> {
+fn counted(rt: &impl Print, word: &str, counts: &[u64]) -> io::Result<()> {
     for (number, count) in counts.iter().enumerate() {
-        answered(rt, word, number as u64, *count)?;
+        println!(rt; "{word} {number}: {count}")?;
     }
     Ok(())
 }
@@ -260,30 +177,27 @@ fn counted(rt: &impl Print, word: &[u8], counts: &[u64]) -> io::Result<()> {
 fn all<R: Read>(
     rt: &impl Print,
     input: &mut R,
-    name: &[u8],
+    name: &str,
     kind: Kind,
     image: &mut [u8],
     counts: &mut [u64],
 ) -> io::Result<()> {
-    let mut done: u64 = 0;
-    let mut wrong: u64 = 0;
-    while done < 1000000 {
-        match one(input, kind, image, counts) {
-            Outcome::End => break,
-            Outcome::Short => {
-                short(rt, name, done)?;
+    let mut wrong = 0;
+    for done in 0..1000000 {
+        match one(input, kind, image) {
+            Ok(Some(Outcome::Same(number))) => count_one(counts, number),
+            Ok(Some(Outcome::Differs)) => {
+                println!(rt; "differs in {name}: image {done}")?;
                 wrong += 1;
-                break;
             }
-            Outcome::Same(_) => {}
-            Outcome::Differs => {
-                differs(rt, name, done)?;
-                wrong += 1;
+            Ok(None) => return totals(rt, kind, done, wrong),
+            Err(CutOff) => {
+                println!(rt; "cut off in {name}: image {done}")?;
+                return totals(rt, kind, done, wrong + 1);
             }
         }
-        done += 1;
     }
-    totals(rt, kind, done, wrong)
+    totals(rt, kind, 1000000, wrong)
 }
 
 // No answer has a number above 14, and none of reading has one above 9.
@@ -294,17 +208,10 @@ fn replay(rt: &HostRuntime, name: &str, kind: Kind) -> io::Result<()> {
     };
     let mut image = [0u8; 65537];
     let mut counts = [0u64; 15];
-    all(
-        rt,
-        &mut file,
-        name.as_bytes(),
-        kind,
-        &mut image,
-        &mut counts,
-    )?;
+    all(rt, &mut file, name, kind, &mut image, &mut counts)?;
     match kind {
-        Kind::Reading => counted(rt, b"answered ", &counts[0..10]),
-        Kind::Text => counted(rt, b"texts answering ", &counts),
+        Kind::Reading => counted(rt, "answered", &counts[..10]),
+        Kind::Text => counted(rt, "texts answering", &counts),
     }
 }
 

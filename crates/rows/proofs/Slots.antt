@@ -2,9 +2,10 @@
 use Prim.Native.Nat.{ℕ, zero, suc, ◌<◌, ◌^◌}
 use mathlib.Core.Path.{◌≡◌, refl, sym, ap, subst, ◌∙◌}
 use mathlib.Core.List.{List}
-use mathlib.Core.Bool.{Bool, true, false, cond}
+use mathlib.Core.Bool.{Bool, true, false, not, cond}
 use mathlib.Core.Option.{some}
 use native.Mathlib.Omega.{arith}
+use lib.Dec.{eqb}
 use lib.ListN.{get_or}
 use Rattle.number.specs.Grammar.{Grammar, kind, count, value, give, ◌>>=◌, number, many, counted, done, read}
 use Rattle.number.proofs.Reading.{read_done, given}
@@ -48,16 +49,16 @@ none_stored s n z end (suc (suc zero)) e a b c = absurd (b refl)
 none_stored s n z end (suc (suc (suc zero))) e a b c = absurd (c refl)
 none_stored s n z end (suc (suc (suc (suc k)))) e a b c = let y : ◌≡◌ {A = ℕ} 0 1 = cc in absurd (omega arith)
 
--- and one that holds some
-some_stored : (s : List ℕ) (n : ℕ) (z : Stored) (end k : ℕ) → read (get_or stored_table k no_kind) s n ≡ done z end → ¬ (k ≡ 0) → true ≡ is_there (size_in z)
+-- all but kind 0 hold some
+some_stored : (s : List ℕ) (n : ℕ) (z : Stored) (end k : ℕ) → read (get_or stored_table k no_kind) s n ≡ done z end → not (eqb k 0) ≡ is_there (size_in z)
 unfolding read ◌>>=◌
-some_stored s n z end zero e a = absurd (a refl)
-some_stored s n z end (suc zero) e a = there (given (read_done (number value (2 ^ 63)) (λ b. give (Stored.fixed b)) s n z end e).rest).0
-some_stored s n z end (suc (suc zero)) e a = there (given (read_done (number value (2 ^ 63)) (λ l. give (Stored.from l)) s n z end e).rest).0
-some_stored s n z end (suc (suc (suc zero))) e a =
+some_stored s n z end zero e = there (given e).0
+some_stored s n z end (suc zero) e = there (given (read_done (number value (2 ^ 63)) (λ b. give (Stored.fixed b)) s n z end e).rest).0
+some_stored s n z end (suc (suc zero)) e = there (given (read_done (number value (2 ^ 63)) (λ l. give (Stored.from l)) s n z end e).rest).0
+some_stored s n z end (suc (suc (suc zero))) e =
     let p = read_done (number value (2 ^ 63)) (λ l. ◌>>=◌ (number value (2 ^ 63)) (λ h. give (Stored.bounded l h))) s n z end e in
     there (given (read_done (number value (2 ^ 63)) (λ h. give (Stored.bounded p.first h)) s p.middle z end p.rest).rest).0
-some_stored s n z end (suc (suc (suc (suc k)))) e a = let y : ◌≡◌ {A = ℕ} 0 1 = cc in absurd (omega arith)
+some_stored s n z end (suc (suc (suc (suc k)))) e = let y : ◌≡◌ {A = ℕ} 0 1 = cc in absurd (omega arith)
 
 module _ (s : List ℕ) (at : ℕ) where
   -- ## Spans and stored sizes
@@ -85,12 +86,8 @@ module _ (s : List ℕ) (at : ℕ) where
     stored_bounded b m h o u w q =
         brings (given (take_on s m value (2 ^ 63) _ z end h o w (take_on s n value (2 ^ 63) _ z end b m u (rw q at behind_kind)))).0
 
-    pub not_there : k ≡ 0 → false ≡ is_there (size_in z)
-    unfolding read
-    not_there q = there (given (rw q at behind_kind)).0
-
-    pub stored_there : ¬ (k ≡ 0) → true ≡ is_there (size_in z)
-    stored_there a = some_stored s n z end k behind_kind a
+    pub stored_there : not (eqb k 0) ≡ is_there (size_in z)
+    stored_there = some_stored s n z end k behind_kind
 
     pub stored_none : ¬ (k ≡ 1) → ¬ (k ≡ 2) → ¬ (k ≡ 3) → row 0 0 0 ≡ size_row (size_in z)
     stored_none a b c = none_stored s n z end k behind_kind a b c

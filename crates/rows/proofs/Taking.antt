@@ -1,5 +1,5 @@
 -- Numbers of an accepted image, taken one after another. Assumes nothing.
-use Prim.Native.Nat.{ℕ, suc, ◌-◌, ◌≤◌, ◌<◌}
+use Prim.Native.Nat.{ℕ, suc, ◌+◌, ◌-◌, ◌≤◌, ◌<◌}
 use mathlib.Core.Path.{◌≡◌, refl, sym, ap, ap₂, ◌∙◌}
 use mathlib.Core.List.{List, [], ◌∷◌}
 use native.Mathlib.Omega.{arith}
@@ -35,36 +35,34 @@ module _ (s : List ℕ) (at : ℕ) where
       let q = t limit p.first p.middle (sym (read_number role limit s at) ∙ p.here) in
       ap₂ (λ (x m : ℕ). read (k x) s m) q.0 q.1 ∙ p.rest
 
--- A walk over a run: `left` numbers are still to come at p, and make of a what all make of a₀, where `F a xs` is what the
--- numbers xs make of a.
+-- A walk over a run: `passed` numbers are behind, and those still to come at p make of a what all make of a₀, where `F a xs` is
+-- what the numbers xs make of a.
 module _ {A B : Type 0} (F : A → List ℕ → B) (role : Role) (limit : ℕ) (s : List ℕ) where
-  abbrev pub Run : (count at : ℕ) → A → (left p : ℕ) → A → Type 0
-  Run count at a₀ left p a =
+  abbrev pub Run : (count at : ℕ) → A → (passed p : ℕ) → A → Type 0
+  Run count at a₀ passed p a =
       (xs : List ℕ) (n : ℕ) → read (many count (number role limit)) s at ≡ done xs n
-      → (ys : List ℕ) × (read (many left (number role limit)) s p ≡ done ys n) × (F a₀ xs ≡ F a ys)
+      → (ys : List ℕ) × (read (many (count - passed) (number role limit)) s p ≡ done ys n) × (F a₀ xs ≡ F a ys)
 
-  pub first_run : (count at : ℕ) (a : A) → Run count at a count at a
-  first_run count at a xs n e = (xs, e, refl)
+  pub first_run : (count at : ℕ) (a : A) → Run count at a 0 at a
+  first_run count at a xs n e = let z : count - 0 ≡ count = omega arith in (xs, rw z e, refl)
 
-  module _ (count at : ℕ) (a₀ : A) (left p : ℕ) (a : A) (t : Run count at a₀ left p a) where
-    pub next_run : 0 < left → (v q : ℕ) → Takes s p v q → (a' : A) → ((ys : List ℕ) → F a (v ∷ ys) ≡ F a' ys) → Run count at a₀ (left - 1) q a'
+  module _ (count at : ℕ) (a₀ : A) (passed p : ℕ) (a : A) (t : Run count at a₀ passed p a) where
+    pub next_run : passed < count → (v q : ℕ) → Takes s p v q → (a' : A) → ((ys : List ℕ) → F a (v ∷ ys) ≡ F a' ys) → Run count at a₀ (passed + 1) q a'
     next_run h v q k a' step xs n e =
-        let d : left ≡ suc (left - 1) = omega arith in
+        let d : count - passed ≡ suc (count - (passed + 1)) = omega arith in
         let w = t xs n e in
-        let f = front (number role limit) s (left - 1) p w.0 n (rw d at w.1) in
+        let f = front (number role limit) s (count - (passed + 1)) p w.0 n (rw d at w.1) in
         let b = k limit f.first f.middle (sym (read_number role limit s p) ∙ f.here) in (
           f.others,
-          ap (λ (m : ℕ). read (many (left - 1) (number role limit)) s m) b.1 ∙ f.rest,
+          ap (λ (m : ℕ). read (many (count - (passed + 1)) (number role limit)) s m) b.1 ∙ f.rest,
           w.2 ∙ ap (F a) f.whole ∙ ap (λ (x : ℕ). F a (x ∷ f.others)) (sym b.0) ∙ step f.others,
         )
 
-    pub last_run : left ≤ 0 → (xs : List ℕ) (n : ℕ) → read (many count (number role limit)) s at ≡ done xs n → F a₀ xs ≡ F a []
+    -- at the end none is left
+    pub last_run : count ≤ passed → (xs : List ℕ) (n : ℕ) → read (many count (number role limit)) s at ≡ done xs n → (F a₀ xs ≡ F a []) × (p ≡ n)
     unfolding many read
     last_run h xs n e =
-        let z : left ≡ 0 = omega arith in
+        let z : count - passed ≡ 0 = omega arith in
         let w = t xs n e in
-        w.2 ∙ ap (F a) (sym (given (rw z at w.1)).0)
-
-    pub run_end : left ≤ 0 → (xs : List ℕ) (n : ℕ) → read (many count (number role limit)) s at ≡ done xs n → p ≡ n
-    unfolding many read
-    run_end h xs n e = let z : left ≡ 0 = omega arith in (given (rw z at (t xs n e).1)).1
+        let g = given (rw z at w.1) in
+        (w.2 ∙ ap (F a) (sym g.0), g.1)

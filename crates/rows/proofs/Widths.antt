@@ -1,26 +1,13 @@
 -- Widths, case by case. Assumes nothing.
-use Prim.Native.Nat.{ℕ, zero, suc, ◌-◌, ◌≤◌, ◌<◌, max}
-use mathlib.Core.Path.{◌≡◌, refl, sym, ap, ap₂, ◌∙◌}
-use mathlib.Core.List.{List, [], ◌∷◌}
+use Prim.Native.Nat.{ℕ, suc, ◌-◌, ◌≤◌, ◌<◌, max}
+use mathlib.Core.Path.{◌≡◌, sym, ap, ap₂, ◌∙◌}
+use mathlib.Core.List.{[], ◌∷◌}
 use native.Mathlib.Omega.{arith}
 use borrow.Author.Tests.{le-leb, lt-leb}
 use lib.Count.{count_leading_zeros}
 use lib.ListN.{get_or, get_or-eq_default}
 use Rattle.slot.specs.Slot.{Enum}
-use Rattle.sizes.specs.Widths.{highest, top_of, least_bits, bit_length, ordinal_bits, enum_bits, bytes_to, bit_length_is}
-
--- one more number of a run
-pub highest_first : (top v top' : ℕ) → top' ≡ max top v → (ns : List ℕ) → highest top (v ∷ ns) ≡ highest top' ns
-unfolding highest
-highest_first top v top' e ns = ap (λ (x : ℕ). highest x ns) (sym e)
-
-pub highest_none : (top r : ℕ) → r ≡ highest top [] → top ≡ r
-unfolding highest
-highest_none top r e = sym e
-
-pub least_other : (x : ℕ) → (x ≡ 0 → ⊥) → 8 ≡ least_bits x
-least_other zero h = absurd (h refl)
-least_other (suc x) h = refl
+use Rattle.sizes.specs.Widths.{top_of, least_bits, bit_length, ordinal_bits, enum_bits, bytes_to, bit_length_is}
 
 module _ (n : ℕ) where
   pub one_byte : n ≤ 7 → 1 ≡ bytes_to n

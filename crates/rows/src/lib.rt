@@ -21,65 +21,45 @@ use slot::Edition;
 use view::Part;
 
 // A number of an accepted image, and the position after it. Such an image has a number wherever one is taken.
-#[derive(Clone, Copy)]
-struct Taken {
-    value: u64,
-    next: usize,
-}
-
-fn take(image: &[u8], at: usize) -> Taken
-    ensures { Takes image.now at result.value result.next }
+fn take(image: &[u8], at: usize) -> (u64, usize)
+    ensures { Takes image.now at result.0 result.1 }
 {
     match number::read_number(image, at) {
-        Number::Value(value, next) => Taken { value, next },
-        Number::Refused(r) => Taken { value: 0, next: at },
+        Number::Value(value, next) => (value, next),
+        Number::Refused(_) => (0, at),
     }
-}
-
-fn larger(a: u64, b: u64) -> u64
-    ensures { result ≡ max a b }
-{
-    if a < b { b } else { a }
 }
 
 // The highest of a run of numbers and a start value, and the position after the run.
-fn highest_of(image: &[u8], at: usize, count: u64, start: u64) -> Taken
-    ensures { Tops (many count (number value (2 ^ 32))) image.now at start result.value result.next }
+fn highest_of(image: &[u8], at: usize, count: u64, start: u64) -> (u64, usize)
+    ensures { Tops (many count (number value (2 ^ 32))) image.now at start result.0 result.1 }
 {
-    let mut left = count;
-    let mut p = at;
+    let mut here = at;
     let mut top = start;
-    while 0 < left {
-        let ordinal = take(image, p);
-        top = larger(top, ordinal.value);
-        p = ordinal.next;
-        left -= 1;
+    for _ in 0..count {
+        let (ordinal, next) = take(image, here);
+        top = top.max(ordinal);
+        here = next;
     }
-    Taken {
-        value: top,
-        next: p,
-    }
+    (top, here)
 }
 
 // The same of a list with its count.
-fn highest_counted(image: &[u8], at: usize, start: u64) -> Taken
-    ensures { Tops (counted (number value (2 ^ 32))) image.now at start result.value result.next }
+fn highest_counted(image: &[u8], at: usize, start: u64) -> (u64, usize)
+    ensures { Tops (counted (number value (2 ^ 32))) image.now at start result.0 result.1 }
 {
-    let count = take(image, at);
-    highest_of(image, count.next, count.value, start)
+    let (count, first) = take(image, at);
+    highest_of(image, first, count, start)
 }
 
 // One place takes the highest ordinal of an enum and the highest bit of a flags type, live or retired.
 fn highest_ordinal(image: &[u8], at: usize, edition: Edition) -> u64
     ensures { (os : Ordinals) (n : ℕ) → read (ordinals_at edition) image.now at ≡ done os n → result ≡ top_of os }
 {
-    let live = highest_counted(image, at, 0);
+    let (live, retired) = highest_counted(image, at, 0);
     match edition {
-        Edition::One => live.value,
-        Edition::Two => {
-            let both = highest_counted(image, live.next, live.value);
-            both.value
-        }
+        Edition::One => live,
+        Edition::Two => highest_counted(image, retired, live).0,
     }
 }
 
@@ -97,10 +77,7 @@ fn compute_enum_wire_bits(backing: u64, non_exhaustive: u64, top: u64) -> u64
     ensures { (e : Enum) → e.backing ≡ backing → e.non_exhaustive ≡ non_exhaustive → top_of e.ordinals ≡ top → result ≡ enum_bits e }
 {
     match backing {
-        0 => larger(
-            least_bits(non_exhaustive),
-            64 - u64::leading_zeros(top) as u64,
-        ),
+        0 => least_bits(non_exhaustive).max(u64::from(64 - top.leading_zeros())),
         1 => 8,
         2 => 16,
         3 => 32,
@@ -125,14 +102,14 @@ fn compute_flags_wire_bytes(top: u64) -> u64
 fn enum_bits(image: &[u8], at: usize, edition: Edition, declared: bool) -> u64
     ensures { (e : Enum) (n : ℕ) → read (enum_at edition) image.now at ≡ done e n → result ≡ cond declared (enum_bits e) e.stored_bits }
 {
-    let backing = take(image, at);
-    let non_exhaustive = take(image, backing.next);
-    let stored = take(image, non_exhaustive.next);
+    let (backing, at) = take(image, at);
+    let (non_exhaustive, at) = take(image, at);
+    let (stored, ordinals) = take(image, at);
     if declared {
-        let top = highest_ordinal(image, stored.next, edition);
-        compute_enum_wire_bits(backing.value, non_exhaustive.value, top)
+        let top = highest_ordinal(image, ordinals, edition);
+        compute_enum_wire_bits(backing, non_exhaustive, top)
     } else {
-        stored.value
+        stored
     }
 }
 
@@ -140,11 +117,11 @@ fn enum_bits(image: &[u8], at: usize, edition: Edition, declared: bool) -> u64
 fn flags_bytes(image: &[u8], at: usize, edition: Edition, declared: bool) -> u64
     ensures { (f : Flags) (n : ℕ) → read (flags_at edition) image.now at ≡ done f n → result ≡ cond declared (flags_bytes f) f.stored_bytes }
 {
-    let stored = take(image, at);
+    let (stored, ordinals) = take(image, at);
     if declared {
-        compute_flags_wire_bytes(highest_ordinal(image, stored.next, edition))
+        compute_flags_wire_bytes(highest_ordinal(image, ordinals, edition))
     } else {
-        stored.value
+        stored
     }
 }
 
@@ -193,21 +170,20 @@ fn blank_row() -> Row
 fn stored_row(image: &[u8], at: usize) -> Row
     ensures { (z : Stored) (n : ℕ) → read stored_at image.now at ≡ done z n → numbers result ≡ size_row (size_in z) }
 {
-    let first = take(image, at);
-    let kind = first.value;
+    let (kind, at) = take(image, at);
     match kind {
         1 => {
-            let bits = take(image, first.next);
-            size_row(Size::Fixed(bits.value))
+            let (bits, _) = take(image, at);
+            size_row(Size::Fixed(bits))
         }
         2 => {
-            let smallest = take(image, first.next);
-            size_row(Size::Open(smallest.value))
+            let (smallest, _) = take(image, at);
+            size_row(Size::Open(smallest))
         }
         3 => {
-            let smallest = take(image, first.next);
-            let largest = take(image, smallest.next);
-            size_row(Size::Bounded(smallest.value, largest.value))
+            let (smallest, at) = take(image, at);
+            let (largest, _) = take(image, at);
+            size_row(Size::Bounded(smallest, largest))
         }
         _ => blank_row(),
     }
@@ -217,21 +193,17 @@ fn stored_row(image: &[u8], at: usize) -> Row
 fn is_stored(image: &[u8], at: usize) -> bool
     ensures { (z : Stored) (n : ℕ) → read stored_at image.now at ≡ done z n → result ≡ is_there (size_in z) }
 {
-    let first = take(image, at);
-    let kind = first.value;
-    match kind {
-        0 => false,
-        _ => true,
-    }
+    let (kind, _) = take(image, at);
+    kind != 0
 }
 
 // The position after a span.
 fn after_span(image: &[u8], at: usize) -> usize
     ensures { (x : Span) (n : ℕ) → read span_at image.now at ≡ done x n → result ≡ n }
 {
-    let offset = take(image, at);
-    let length = take(image, offset.next);
-    length.next
+    let (_, at) = take(image, at);
+    let (_, at) = take(image, at);
+    at
 }
 
 // The row of slot i.
@@ -277,17 +249,15 @@ pub fn lowest_stored(image: &[u8], starts: &[usize], frame: Frame) -> Lowest
     requires { Promise image.now starts.now frame }
     ensures { result ≡ stored_slot (schema_of frame.edition image.now) }
 {
-    let mut i: usize = 0;
-    while (i as u64) < frame.slots {
+    for i in 0..frame.slots as usize {
         if brings_size(image, starts, i) {
             return Lowest::At(i);
         }
-        i += 1;
     }
     Lowest::Nowhere
 }
 
-// A slot past the table's end is left out.
+// A slot past the table's end is left out. By index: `get_mut` of a slice says nothing of what is written through it.
 fn mark(marks: &mut [bool], slot: u64)
     ensures { marks.new ≡ set marks.old slot true }
 {
@@ -300,13 +270,11 @@ fn mark(marks: &mut [bool], slot: u64)
 fn mark_declared(image: &[u8], at: usize, count: u64, marks: &mut [bool])
     ensures { (ds : List ℕ) (n : ℕ) → read (many count (number slot (2 ^ 32))) image.now at ≡ done ds n → Marked marks.old ds marks.new }
 {
-    let mut left = count;
-    let mut p = at;
-    while 0 < left {
-        let slot = take(image, p);
-        mark(marks, slot.value);
-        p = slot.next;
-        left -= 1;
+    let mut here = at;
+    for _ in 0..count {
+        let (slot, next) = take(image, here);
+        mark(marks, slot);
+        here = next;
     }
 }
 
@@ -326,12 +294,9 @@ fn put_rows(image: &[u8], starts: &[usize], frame: Frame, declared: &[bool], row
     requires { Known image.now starts.now frame declared.now rows.old }
     ensures { rows.new ≡ sets rows.old 0 (table_of (schema_of frame.edition image.now) (brought (schema_of frame.edition image.now))) }
 {
-    let edition = frame.edition;
-    let mut i: usize = 0;
-    while (i as u64) < frame.slots {
-        let row = slot_row(image, starts, edition, i, declared[i]);
+    for i in 0..frame.slots as usize {
+        let row = slot_row(image, starts, frame.edition, i, declared[i]);
         put_row(rows, i, row);
-        i += 1;
     }
 }
 

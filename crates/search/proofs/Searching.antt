@@ -1,5 +1,5 @@
 -- The search over fields that were read: what is left of them, and what is known of the first. Assumes nothing.
-use Prim.Native.Nat.{ℕ, zero, suc, ◌-◌}
+use Prim.Native.Nat.{ℕ, suc, ◌+◌, ◌-◌, ◌<◌, ◌≤◌}
 use mathlib.Core.Path.{◌≡◌, refl, sym, ap, ◌∙◌}
 use mathlib.Core.List.{List, ◌∷◌}
 use mathlib.Core.Bool.{Bool, true, false, cond}
@@ -110,22 +110,22 @@ module _ (f : Frame) (s places : List ℕ) (fields count name expression : ℕ) 
   flat r h fs end ps ts e n rf sound re known =
       h fs end rf (record { parameters = ps; arguments = ts; sound = sound; tree = e; end = n; reads = re; known = known })
 
-  -- what is left of the fields was read, and has the trait field exactly if all have it
-  abbrev pub Left : (left p : ℕ) → Type 0
-  Left left p =
+  -- behind `i` fields, what is left of them was read, and has the trait field exactly if all have it
+  abbrev pub Left : (i p : ℕ) → Type 0
+  Left i p =
       (fs : List Field) (end : ℕ) → Reads count fields fs end → (y : Expressed f.names s places expression)
-      → (gs : List Field) × Reads left p gs end × (has_field fs name (meaning_in S y) ≡ has_field gs name (meaning_in S y))
+      → (gs : List Field) × Reads (count - i) p gs end × (has_field fs name (meaning_in S y) ≡ has_field gs name (meaning_in S y))
 
-  pub at_start : Left count fields
-  at_start fs end e y = (fs, e, refl)
+  pub at_start : Left 0 fields
+  at_start fs end e y = let d : count - 0 ≡ count = omega arith in (fs, rw d e, refl)
 
-  pub at_end : (left p : ℕ) → left ≡ 0 → Left left p → HasField f s places fields count name expression false
+  pub at_end : (i p : ℕ) → count ≤ i → Left i p → HasField f s places fields count name expression false
   unfolding many read has_field
-  at_end (suc left) p z h = absurd (omega arith)
-  at_end zero p z h =
-      flat false (λ fs end e y. let j = h fs end e y in sym (j.2 ∙ ap (λ (l : List Field). has_field l name (meaning_in S y)) (sym (given j.1).0)))
+  at_end i p z h =
+      let d : count - i ≡ 0 = omega arith in
+      flat false (λ fs end e y. let j = h fs end e y in sym (j.2 ∙ ap (λ (l : List Field). has_field l name (meaning_in S y)) (sym (given (rw d at j.1)).0)))
 
-  module _ (left p : ℕ) (z : left ≡ 0 → ⊥) (h : Left left p) (field : FieldHead) (head : Heads f s p field) where
+  module _ (i p : ℕ) (z : i < count) (h : Left i p) (field : FieldHead) (head : Heads f s p field) where
     record First (fs : List Field) (end : ℕ) (x : Tree) : Type 0 where
       first : Field
       others : List Field
@@ -134,31 +134,31 @@ module _ (f : Frame) (s places : List ℕ) (fields count name expression : ℕ) 
       named : first.field_name ≡ field.name
       type_read : read (type_at f.names) s field.place ≡ done first.type behind
       limit_read : read (limit_at f.edition) s behind ≡ done first.limit middle
-      rest : Reads (left - 1) middle others end
+      rest : Reads (count - (i + 1)) middle others end
       has : has_field fs name x ≡ cond (is_field first name x) true (has_field others name x)
 
     first_of : (fs : List Field) (end : ℕ) → Reads count fields fs end → (y : Expressed f.names s places expression) → First fs end (meaning_in S y)
     first_of fs end e y =
-        let d : left ≡ suc (left - 1) = omega arith in
+        let d : count - i ≡ suc (count - (i + 1)) = omega arith in
         let j = h fs end e y in
-        let i = front (field_at f.edition f.names) s (left - 1) p j.0 end (rw d at j.1) in
-        let g = head i.first i.middle i.here in
+        let x = front (field_at f.edition f.names) s (count - (i + 1)) p j.0 end (rw d at j.1) in
+        let g = head x.first x.middle x.here in
         record {
-          first = i.first;
-          others = i.others;
+          first = x.first;
+          others = x.others;
           behind = g.1;
-          middle = i.middle;
+          middle = x.middle;
           named = g.0;
           type_read = g.2;
           limit_read = g.3;
-          rest = i.rest;
-          has = j.2 ∙ has_front name (meaning_in S y) i.whole;
+          rest = x.rest;
+          has = j.2 ∙ has_front name (meaning_in S y) x.whole;
         }
 
     -- the position after the type, and after the limit behind it
     module _ (t u : Next) (a : t ≡ next (read (type_at f.names) s field.place)) (b : u ≡ follow t (λ n. next (read (limit_at f.edition) s n))) where
       passed : (fs : List Field) (end : ℕ) (e : Reads count fields fs end) (y : Expressed f.names s places expression) → u ≡ Next.At (first_of fs end e y).middle
-      passed fs end e y = let i = first_of fs end e y in b ∙ follow_on t _ i.behind (a ∙ ap next i.type_read) ∙ ap next i.limit_read
+      passed fs end e y = let x = first_of fs end e y in b ∙ follow_on t _ x.behind (a ∙ ap next x.type_read) ∙ ap next x.limit_read
 
       pub field_cut : (x q : ℕ) (o : Bool) → u ≡ Next.Refused x q → HasField f s places fields count name expression o
       field_cut x q o w = flat o (λ fs end e y. absurd (at_not w (passed fs end e y)))
@@ -167,22 +167,22 @@ module _ (f : Frame) (s places : List ℕ) (fields count name expression : ℕ) 
       here : (fs : List Field) (end : ℕ) (e : Reads count fields fs end) (y : Expressed f.names s places expression) (b : Bool) → r ≡ b
           → has_field fs name (meaning_in S y) ≡ cond b true (has_field (first_of fs end e y).others name (meaning_in S y))
       here fs end e y b w =
-          let i = first_of fs end e y in
-          i.has ∙ ap (λ (c : Bool). cond c true (has_field i.others name (meaning_in S y))) (sym (j i.first i.behind i.named i.type_read y) ∙ w)
+          let x = first_of fs end e y in
+          x.has ∙ ap (λ (c : Bool). cond c true (has_field x.others name (meaning_in S y))) (sym (j x.first x.behind x.named x.type_read y) ∙ w)
 
       pub hit : r ≡ true → HasField f s places fields count name expression true
       hit w = flat true (λ fs end e y. sym (here fs end e y true w))
 
       pub onward : r ≡ false → (t u : Next) → t ≡ next (read (type_at f.names) s field.place) → u ≡ follow t (λ n. next (read (limit_at f.edition) s n))
-          → (after : ℕ) → u ≡ Next.At after → Left (left - 1) after
+          → (after : ℕ) → u ≡ Next.At after → Left (i + 1) after
       onward w t u a b after v fs end e y =
-          let i = first_of fs end e y in
-          (i.others, at_place (many (left - 1) (field_at f.edition f.names)) s i.rest (at_same v (passed t u a b fs end e y)), here fs end e y false w)
+          let x = first_of fs end e y in
+          (x.others, at_place (many (count - (i + 1)) (field_at f.edition f.names)) s x.rest (at_same v (passed t u a b fs end e y)), here fs end e y false w)
 
 -- what the call for a field asks for
 pub field_asked : (s starts : List ℕ) (f : Frame) (finds places : List ℕ) (fields count name expression : ℕ) → SearchAsked s starts f finds places fields count expression
-    → (left p : ℕ) → (left ≡ 0 → ⊥) → Left f s places fields count name expression left p → (field : FieldHead) → Heads f s p field
+    → (i p : ℕ) → i < count → Left f s places fields count name expression i p → (field : FieldHead) → Heads f s p field
     → FieldAsked s starts f finds places field.place expression
-field_asked s starts f finds places fields count name expression a left p z h field head =
-    let b = first_of f s places fields count name expression left p z h field head a.list a.list_end a.list_read a.expressed in
+field_asked s starts f finds places fields count name expression a i p z h field head =
+    let b = first_of f s places fields count name expression i p z h field head a.list a.list_end a.list_read a.expressed in
     record { ready = a.ready; type = b.first.type; type_end = b.behind; type_read = b.type_read; expressed = a.expressed }

@@ -38,8 +38,8 @@ module _ {s starts : List ℕ} {f : Frame} {finds before : List ℕ} {list start
         → LookAsked f.names 32 s expression list start arguments
     looks ps ts b e end q = record { few = omega arith; parameters = ps; types = ts; bound = b; tree = e; end = end; reads = q }
 
-    pub looks_up : (told end-told : ℕ) → told ≡ look_ups → end-told ≡ next → LooksUp f.names s expression told end-told
-    looks_up told end-told t u e end q = let j = l (looks a.looks.parameters a.looks.types a.looks.bound e end q) in (t ∙ j.0, u ∙ j.2)
+    pub looks_up : LooksUp f.names s expression look_ups next
+    looks_up e end q = let j = l (looks a.looks.parameters a.looks.types a.looks.bound e end q) in (j.0, j.2)
 
     pub places_hold : PlacesHold f.names s list start arguments expression before after
     places_hold ps ts b e end q = (l (looks ps ts b e end q)).1
@@ -64,8 +64,7 @@ module _ {s starts : List ℕ} {f : Frame} {finds before : List ℕ} {list start
           };
         }
 
-    pub found_if : (name : ℕ) (r : Bool) → HasField f s after fields count name expression r
-        → (told : Bool) → told ≡ r → FoundIf f s list start arguments fields count name expression told
-    found_if name r h told t fs m rf ps ts b e end q =
+    pub found_if : (name : ℕ) (r : Bool) → HasField f s after fields count name expression r → FoundIf f s list start arguments fields count name expression r
+    found_if name r h fs m rf ps ts b e end q =
         let n = noted (looks ps ts b e end q) (places_hold ps ts b e end q) in
-        t ∙ h fs m ps ts e end rf (n.sound (sound_before ps ts b)) q n.known
+        h fs m ps ts e end rf (n.sound (sound_before ps ts b)) q n.known

@@ -6,7 +6,6 @@ ghost use Rattle.search.specs.Search.{Heads, FieldAsked, IsField, SearchAsked, H
 
 use image::Frame;
 use matching::Matched;
-use meanings::Looked;
 use number::{Next, Ranged};
 use tree::Sort;
 
@@ -85,42 +84,22 @@ fn has_field(
     ensures { HasField frame image.now places.now fields count name expression result }
 {
     let edition = frame.edition;
-    let mut left = count;
     let mut p = fields;
-    let found = loop {
-        if left == 0 {
-            break false;
-        }
-        let field = field_head(image, p, frame);
-        if field.name == name {
-            if is_field(image, starts, frame, finds, places, field, expression) {
-                break true;
+    'search: {
+        for _ in 0..count {
+            let field = field_head(image, p, frame);
+            if field.name == name
+                && is_field(image, starts, frame, finds, places, field, expression)
+            {
+                break 'search true;
             }
+            let limited = tree::read_tree(image, field.place, 32, Sort::Resolved, frame.names);
+            let Next::At(after) = slot::skip_limit(image, limited, edition) else {
+                break 'search false;
+            };
+            p = after;
         }
-        let limited = tree::read_tree(image, field.place, 32, Sort::Resolved, frame.names);
-        match slot::skip_limit(image, limited, edition) {
-            Next::At(after) => {
-                p = after;
-                left -= 1;
-            }
-            Next::Refused(_, place) => {
-                break false;
-            }
-        }
-    };
-    found
-}
-
-// The look-ups are told as they were made, whether a field was found or not.
-fn answer(found: bool, looked: Looked) -> Searched
-    ensures found { result.found ≡ found }
-    ensures look_ups { result.look_ups ≡ looked.count }
-    ensures next { result.next ≡ looked.next }
-{
-    Searched {
-        found,
-        look_ups: looked.count,
-        next: looked.next,
+        false
     }
 }
 
@@ -157,5 +136,10 @@ pub fn search_field(
     let found = has_field(
         image, starts, frame, finds, places, fields, count, name, expression,
     );
-    answer(found, looked)
+    // The look-ups are told as they were made, whether a field was found or not.
+    Searched {
+        found,
+        look_ups: looked.count,
+        next: looked.next,
+    }
 }

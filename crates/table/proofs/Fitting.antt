@@ -23,6 +23,12 @@ fitted_at (suc n) [] (suc i) h = fitted_at n [] i (omega arith)
 fitted_at (suc n) (x ∷ l) zero h = refl
 fitted_at (suc n) (x ∷ l) (suc i) h = fitted_at n l i (omega arith)
 
+-- a table of zeros holds an empty list
+pub zeros_fitted : (n : ℕ) → replicate n 0 ≡ fitted n []
+unfolding fitted
+zeros_fitted zero = refl
+zeros_fitted (suc n) = ap (λ (l : List ℕ). 0 ∷ l) (zeros_fitted n)
+
 -- the places below i are written
 pub record Written (table before now : List ℕ) (i : ℕ) : Type 0 where
   pub low : i ≤ length before

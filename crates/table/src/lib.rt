@@ -5,23 +5,17 @@ ghost use Rattle.std.specs.Prelude.{◌≡◌, [], length};
 ghost use Rattle.table.specs.Fitted.{fitted};
 
 // All zero.
+#[tactic(auto, using(crate::proofs::Fitting::zeros_fitted))]
 pub fn clear(sizes: &mut [u64])
     ensures { sizes.new ≡ fitted (length sizes.old) [] }
 {
-    let mut i: usize = 0;
-    while i < sizes.len() {
-        sizes[i] = 0;
-        i += 1;
-    }
+    sizes.fill(0);
 }
 
 // All zero.
+#[tactic(auto, using(crate::proofs::Fitting::zeros_fitted))]
 pub fn clear_findings(findings: &mut [u32])
     ensures { findings.new ≡ fitted (length findings.old) [] }
 {
-    let mut i: usize = 0;
-    while i < findings.len() {
-        findings[i] = 0;
-        i += 1;
-    }
+    findings.fill(0);
 }

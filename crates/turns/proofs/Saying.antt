@@ -26,7 +26,7 @@ use Rattle.turns.specs.Sizing.{layout_of, gated, verdict, worked_in, sizing_in, 
 use Rattle.turns.specs.declared.Entry.{Entry}
 use Rattle.turns.specs.declared.Entry.TheVariants.{Ordinary, HeadBoard}
 use Rattle.turns.specs.declared.Sizing.{Sizing}
-use Rattle.turns.specs.declared.Passed.{Passed}
+use Rattle.std.specs.Prelude.{Result, Ok, ⊤}
 use Rattle.table.proofs.Fitting.{fitted_front, written_on}
 use Rattle.slot.specs.declared.Edition.{Edition}
 
@@ -97,7 +97,7 @@ module _ (L : Layout) (S : Schema) (before after : List ℕ) where
         }
 
     -- the table
-    pub all_passed : (zeros : List ℕ) → zeros ≡ fitted (length before) [] → Through L S zeros after Passed.All
+    pub all_passed : (zeros : List ℕ) → zeros ≡ fitted (length before) [] → Through L S zeros after (Ok tt)
         → SizesSaid L S (worked_in L (length before) S) before after Sizing.Accepted
     unfolding worked_in
     all_passed zeros e t =
@@ -156,5 +156,5 @@ module _ (E : Entry) (ed : Edition) (s before after : List ℕ) where
       }
 
 -- what the code's answer says, once it was matched
-pub at_through : (L : Layout) (S : Schema) (l rows : List ℕ) (x y : Passed) → Through L S l rows x → x ≡ y → Through L S l rows y
-at_through L S l rows x y t e = subst (λ (p : Passed). Through L S l rows p) e t
+pub at_through : (L : Layout) (S : Schema) (l rows : List ℕ) (x y : Result ⊤ (Operation × ℕ)) → Through L S l rows x → x ≡ y → Through L S l rows y
+at_through L S l rows x y t e = subst (λ (p : Result ⊤ (Operation × ℕ)). Through L S l rows p) e t

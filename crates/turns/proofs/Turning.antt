@@ -25,8 +25,7 @@ use Rattle.wiresize.specs.Rows.{RowsHold}
 use Rattle.wiresize.specs.Asked.{Held, turn_of}
 use Rattle.turns.specs.Sizing.{Begun, TurnTaken, Through}
 use Rattle.wiresize.specs.declared.Turned.{Turned}
-use Rattle.turns.specs.declared.Taken.{Taken}
-use Rattle.turns.specs.declared.Passed.{Passed}
+use Rattle.std.specs.Prelude.{Result, Ok, Err, ⊤, MatchResult, IsErrAnd}
 
 module _ (S : Schema) where
   pub holds : (st : State) (l rows : List ℕ) → 3 * length S.slots ≤ length l → rows ≡ sets l 0 (table_of S st) → RowsHold S st rows
@@ -68,17 +67,17 @@ module _ (L : Layout) (S : Schema) where
 
   -- the ways through a turn
   module _ (st : State) (i : ℕ) (l rows : List ℕ) (room : 3 * length S.slots ≤ length l) (e : rows ≡ sets l 0 (table_of S st)) where
-    pub beyond : length S.slots ≤ i → TurnTaken L S st i l rows Taken.On
+    pub beyond : length S.slots ≤ i → TurnTaken L S st i l rows (Ok tt)
     beyond h = (st, turn_none st i (own_past st i h), e)
 
-    pub other : (r : Turned) → turn_of r ≡ own_size L S st i → r ≡ Turned.Other → TurnTaken L S st i l rows Taken.On
+    pub other : (r : Turned) → turn_of r ≡ own_size L S st i → r ≡ Turned.Other → TurnTaken L S st i l rows (Ok tt)
     other r o q = (st, turn_none st i (sym o ∙ ap turn_of q), e)
 
-    pub over : (r : Turned) (o : Operation) → turn_of r ≡ own_size L S st i → r ≡ Turned.Over o → TurnTaken L S st i l rows (Taken.Over o)
+    pub over : (r : Turned) (o : Operation) → turn_of r ≡ own_size L S st i → r ≡ Turned.Over o → TurnTaken L S st i l rows (Err o)
     over r o own q = turn_over st i o (sym own ∙ ap turn_of q)
 
     pub sized : (r : Turned) (z : Size) → turn_of r ≡ own_size L S st i → r ≡ Turned.Sized z → (row after : List ℕ) → row ≡ size_row (some z)
-        → after ≡ sets rows (3 * i) row → TurnTaken L S st i l after Taken.On
+        → after ≡ sets rows (3 * i) row → TurnTaken L S st i l after (Ok tt)
     sized r z o q row after p f =
         let w = sym o ∙ ap turn_of q in (
           store i z st,
@@ -90,88 +89,101 @@ turned_on : (L : Layout) (S : Schema) (st : State) (v : ℕ) (st' : State) (is :
 unfolding turns onward
 turned_on L S st v st' is a = rw a
 
--- the places that are left, and the sizes stored so far
-module _ (L : Layout) (s : List ℕ) (S : Schema) (l₀ : List ℕ) where
-  pub record Left (l rows : List ℕ) (p left : ℕ) : Type 0 where
+-- the places that are left behind `i` of them, and the sizes stored so far
+module _ (L : Layout) (s : List ℕ) (S : Schema) (l₀ : List ℕ) (count : ℕ) where
+  pub record Left (l rows : List ℕ) (p i : ℕ) : Type 0 where
     pub state : State
     pub places : List ℕ
     pub end : ℕ
-    pub reads : read (many left (number slot (2 ^ 32))) s p ≡ done places end
+    pub reads : read (many (count - i) (number slot (2 ^ 32))) s p ≡ done places end
     pub same : check_sizes L S ≡ turns L S state places
     pub held : rows ≡ sets l 0 (table_of S state)
 
-  pub record Going (rows : List ℕ) (p left : ℕ) : Type 0 where
+  pub record Going (rows : List ℕ) (p i : ℕ) : Type 0 where
     pub long : length rows ≡ length l₀
-    pub left_over : (l : List ℕ) → 3 * length S.slots ≤ length l → l₀ ≡ sets l 0 (table_of S (brought S)) → Left l rows p left
+    pub left_over : (l : List ℕ) → 3 * length S.slots ≤ length l → l₀ ≡ sets l 0 (table_of S (brought S)) → Left l rows p i
 
-  pub first_turn : (p left end : ℕ) → read (many left (number slot (2 ^ 32))) s p ≡ done S.declared end → Going l₀ p left
+  pub first_turn : (p end : ℕ) → read (many count (number slot (2 ^ 32))) s p ≡ done S.declared end → Going l₀ p 0
   unfolding check_sizes
-  first_turn p left end e =
-      record { long = refl; left_over = λ l h q. record { state = brought S; places = S.declared; end = end; reads = e; same = refl; held = q } }
+  first_turn p end e =
+      let d : count - 0 ≡ count = omega arith in
+      record { long = refl; left_over = λ l h q. record { state = brought S; places = S.declared; end = end; reads = rw d e; same = refl; held = q } }
 
-  module _ (rows : List ℕ) (p left : ℕ) (g : Going rows p left) where
-    pub last_turn : left ≤ 0 → (l : List ℕ) → 3 * length S.slots ≤ length l → l₀ ≡ sets l 0 (table_of S (brought S)) → Through L S l rows Passed.All
+  module _ (rows : List ℕ) (p i : ℕ) (g : Going rows p i) where
+    pub last_turn : count ≤ i → (l : List ℕ) → 3 * length S.slots ≤ length l → l₀ ≡ sets l 0 (table_of S (brought S)) → Through L S l rows (Ok tt)
     unfolding turns many read
     last_turn h l r e =
         let w = g.left_over l r e in
-        let z : left ≡ 0 = omega arith in
+        let z : count - i ≡ 0 = omega arith in
         let k = given (rw z at w.reads) in
         (w.state, w.same ∙ ap (turns L S w.state) (sym k.0), w.held)
 
-    module _ (h : 0 < left) where
+    module _ (h : i < count) where
       -- the first of the places left
-      record First (l : List ℕ) (w : Left l rows p left) : Type 0 where
+      record First (l : List ℕ) (w : Left l rows p i) : Type 0 where
         value : ℕ
         others : List ℕ
         middle : ℕ
         reads : below (2 ^ 32) s p ≡ done value middle
-        rest : read (many (left - 1) (number slot (2 ^ 32))) s middle ≡ done others w.end
+        rest : read (many (count - (i + 1)) (number slot (2 ^ 32))) s middle ≡ done others w.end
         whole : w.places ≡ value ∷ others
 
-      first_of : (l : List ℕ) (w : Left l rows p left) → First l w
+      first_of : (l : List ℕ) (w : Left l rows p i) → First l w
       first_of l w =
-          let d : left ≡ suc (left - 1) = omega arith in
-          let f = front (number slot (2 ^ 32)) s (left - 1) p w.places w.end (subst (λ (k : ℕ). read (many k (number slot (2 ^ 32))) s p ≡ done w.places w.end) d w.reads) in
+          let d : count - i ≡ suc (count - (i + 1)) = omega arith in
+          let f = front (number slot (2 ^ 32)) s (count - (i + 1)) p w.places w.end (subst (λ (k : ℕ). read (many k (number slot (2 ^ 32))) s p ≡ done w.places w.end) d w.reads) in
           record { value = f.first; others = f.others; middle = f.middle; reads = sym (read_number slot (2 ^ 32) s p) ∙ f.here; rest = f.rest; whole = f.whole }
 
-      pub stop_turn : (r q : ℕ) → below (2 ^ 32) s p ≡ refused r q → (x : Passed) (l : List ℕ) → 3 * length S.slots ≤ length l → l₀ ≡ sets l 0 (table_of S (brought S)) → Through L S l rows x
+      pub stop_turn : (r q : ℕ) → below (2 ^ 32) s p ≡ refused r q → (x : Result ⊤ (Operation × ℕ)) (l : List ℕ) → 3 * length S.slots ≤ length l → l₀ ≡ sets l 0 (table_of S (brought S)) → Through L S l rows x
       stop_turn r q e x l k f = absurd (not_done e (first_of l (g.left_over l k f)).reads)
 
-      module _ (v n : ℕ) (e : below (2 ^ 32) s p ≡ done v n) (after : List ℕ) where
-        pub over_turn : (b : Taken) (o : Operation) → b ≡ Taken.Over o → ((l : List ℕ) (st : State) → 3 * length S.slots ≤ length l → rows ≡ sets l 0 (table_of S st) → TurnTaken L S st v l after b)
-            → (l : List ℕ) → 3 * length S.slots ≤ length l → l₀ ≡ sets l 0 (table_of S (brought S)) → Through L S l after (Passed.Over o v)
+      module _ (v n : ℕ) (e : below (2 ^ 32) s p ≡ done v n) (after : List ℕ) (b : Result ⊤ Operation)
+          (t : (l : List ℕ) (st : State) → 3 * length S.slots ≤ length l → rows ≡ sets l 0 (table_of S st) → TurnTaken L S st v l after b) where
+        pub over_turn : (o : Operation) → b ≡ Err o → (l : List ℕ) → 3 * length S.slots ≤ length l → l₀ ≡ sets l 0 (table_of S (brought S)) → Through L S l after (Err (o, v))
         unfolding turns onward
-        over_turn b o q t l k f =
+        over_turn o q l k f =
             let w = g.left_over l k f in
             let z = first_of l w in
             let y = (given (sym z.reads ∙ e)).0 in
-            let u : turn L S w.state v ≡ check.refused o v = subst (λ (x : Taken). TurnTaken L S w.state v l after x) q (t l w.state k w.held) in
+            let u : turn L S w.state v ≡ check.refused o v = subst (λ (x : Result ⊤ Operation). TurnTaken L S w.state v l after x) q (t l w.state k w.held) in
             w.same ∙ ap (turns L S w.state) (z.whole ∙ ap (λ (x : ℕ). x ∷ z.others) y) ∙ rw u
 
-        pub next_turn : (b : Taken) → b ≡ Taken.On → length after ≡ length rows
-            → ((l : List ℕ) (st : State) → 3 * length S.slots ≤ length l → rows ≡ sets l 0 (table_of S st) → TurnTaken L S st v l after b) → Going after n (left - 1)
-        next_turn b q m t =
+        pub next_turn : (a : ⊤) → b ≡ Ok a → length after ≡ length rows → Going after n (i + 1)
+        next_turn a q m =
             record {
               long = m ∙ g.long;
               left_over = λ l k f. onto l k (g.left_over l k f);
             }
           where
-            onto : (l : List ℕ) → 3 * length S.slots ≤ length l → Left l rows p left → Left l after n (left - 1)
+            onto : (l : List ℕ) → 3 * length S.slots ≤ length l → Left l rows p i → Left l after n (i + 1)
             onto l k w =
                 let o = first_of l w in
                 let y = given (sym o.reads ∙ e) in
-                let u : TurnTaken L S w.state v l after Taken.On = subst (λ (x : Taken). TurnTaken L S w.state v l after x) q (t l w.state k w.held) in
+                let u : TurnTaken L S w.state v l after (Ok a) = subst (λ (x : Result ⊤ Operation). TurnTaken L S w.state v l after x) q (t l w.state k w.held) in
                 record {
                   state = u.0;
                   places = o.others;
                   end = w.end;
-                  reads = subst (λ (x : ℕ). read (many (left - 1) (number slot (2 ^ 32))) s x ≡ done o.others w.end) y.1 o.rest;
+                  reads = subst (λ (x : ℕ). read (many (count - (i + 1)) (number slot (2 ^ 32))) s x ≡ done o.others w.end) y.1 o.rest;
                   same = w.same ∙ ap (turns L S w.state) (o.whole ∙ ap (λ (x : ℕ). x ∷ o.others) y.0) ∙ turned_on L S w.state v u.0 o.others u.1;
                   held = u.2;
                 }
 
+-- what `map_err` made of a turn's answer
+abbrev Mapped : (Operation → Operation × ℕ → Type 0) → Result ⊤ Operation → Result ⊤ (Operation × ℕ) → Type 0
+Mapped Q r x = MatchResult r (λ a. x ≡ Ok a) (λ o. IsErrAnd x (Q o))
+
+pub mapped_ok : (Q : Operation → Operation × ℕ → Type 0) (r : Result ⊤ Operation) (x : Result ⊤ (Operation × ℕ)) → Mapped Q r x → (a : ⊤) → x ≡ Ok a → r ≡ Ok a
+mapped_ok Q (Ok b) x h a e = refl
+mapped_ok Q (Err o) x h a e = absurd (rw e at h)
+
+pub mapped_err : (Q : Operation → Operation × ℕ → Type 0) (r : Result ⊤ Operation) (x : Result ⊤ (Operation × ℕ)) → Mapped Q r x
+    → (v : ℕ) → ((o : Operation) (w : Operation × ℕ) → Q o w → w ≡ (o, v)) → (w : Operation × ℕ) → x ≡ Err w → (o : Operation) × (r ≡ Err o) × (w ≡ (o, v))
+mapped_err Q (Ok a) x h v f w e = absurd (cc)
+mapped_err Q (Err o) x h v f w e = (o, refl, f o w (rw e at h))
+
 -- at each turn the table holds a state
-pub turn_held : (L : Layout) (s : List ℕ) (S : Schema) (l₀ rows : List ℕ) (p left : ℕ) → Begun S l₀ → Going L s S l₀ rows p left → Held S rows
-turn_held L s S l₀ rows p left b g =
+pub turn_held : (L : Layout) (s : List ℕ) (S : Schema) (l₀ : List ℕ) (count : ℕ) (rows : List ℕ) (p i : ℕ) → Begun S l₀ → Going L s S l₀ count rows p i → Held S rows
+turn_held L s S l₀ count rows p i b g =
     let w = g.left_over b.base b.room b.filled in
     record { state = w.state; holds = holds S w.state b.base rows b.room w.held }

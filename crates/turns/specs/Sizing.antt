@@ -1,5 +1,5 @@
 -- From an image and the places of a size table to the answer and the table. Refusals 10, 11, 14 and 15.
-use Rattle.std.specs.Prelude.{ℕ, ◌*◌, ◌≤◌, ◌≡◌, List, [], cond, length, ltb}
+use Rattle.std.specs.Prelude.{ℕ, ◌*◌, ◌≤◌, ◌≡◌, List, [], cond, length, ltb, Result, Ok, Err, ⊤}
 use Rattle.std.proofs.lemmas.List.Edits.{sets}
 use Rattle.graph.specs.Ways.{if_found}
 use Rattle.image.specs.Schema.{Schema}
@@ -9,6 +9,7 @@ use Rattle.reader.specs.declared.Reading.{Reading}
 use Rattle.sizes.specs.declared.Layout.{Layout}
 use Rattle.sizes.specs.declared.Layout.TheVariants.{Packed, Aligned}
 use Rattle.sizes.specs.Sizes.{refusal_of}
+use Rattle.sizes.specs.declared.Operation.{Operation}
 use Rattle.sizes.specs.Names.{State, NamesObey}
 use Rattle.sizes.specs.Check.{Checked, accepted, refused, turn, check_sizes, brought, stored_slot, table_of}
 use Rattle.sizes.specs.Demand.{Demand3}
@@ -16,8 +17,6 @@ use Rattle.table.specs.Fitted.{fitted}
 use Rattle.turns.specs.declared.Entry.{Entry}
 use Rattle.turns.specs.declared.Entry.TheVariants.{Ordinary, HeadBoard}
 use Rattle.turns.specs.declared.Sizing.{Sizing}
-use Rattle.turns.specs.declared.Taken.{Taken}
-use Rattle.turns.specs.declared.Passed.{Passed}
 use Rattle.slot.specs.declared.Edition.{Edition}
 
 -- ## The entries
@@ -99,11 +98,11 @@ pub record Begun (S : Schema) (rows : List ℕ) : Type 0 where
   pub filled : rows ≡ sets base 0 (table_of S (brought S))
 
 -- a place of the declaration list was passed: the rows hold the sizes stored then, or a number passed the limit
-abbrev pub TurnTaken : Layout → Schema → State → (slot : ℕ) → (l after : List ℕ) → Taken → Type 0
-TurnTaken L S st i l after Taken.On = (st' : State) × (turn L S st i ≡ accepted st') × (after ≡ sets l 0 (table_of S st'))
-TurnTaken L S st i l after (Taken.Over o) = turn L S st i ≡ refused o i
+abbrev pub TurnTaken : Layout → Schema → State → (slot : ℕ) → (l after : List ℕ) → Result ⊤ Operation → Type 0
+TurnTaken L S st i l after (Ok u) = (st' : State) × (turn L S st i ≡ accepted st') × (after ≡ sets l 0 (table_of S st'))
+TurnTaken L S st i l after (Err o) = turn L S st i ≡ refused o i
 
--- all places were passed
-abbrev pub Through : Layout → Schema → (l after : List ℕ) → Passed → Type 0
-Through L S l after Passed.All = (st : State) × (check_sizes L S ≡ accepted st) × (after ≡ sets l 0 (table_of S st))
-Through L S l after (Passed.Over o i) = check_sizes L S ≡ refused o i
+-- all places were passed, or a number passed the limit at a slot's turn
+abbrev pub Through : Layout → Schema → (l after : List ℕ) → Result ⊤ (Operation × ℕ) → Type 0
+Through L S l after (Ok u) = (st : State) × (check_sizes L S ≡ accepted st) × (after ≡ sets l 0 (table_of S st))
+Through L S l after (Err (o, i)) = check_sizes L S ≡ refused o i

@@ -35,20 +35,6 @@ pub enum Sizing {
     Refused(u8, u64),
 }
 
-// On to the next place of the declaration list, or what made the first number above the limit.
-#[derive(Clone, Copy)]
-pub enum Taken {
-    On,
-    Over(Operation),
-}
-
-// All places were gone through, or what made the first number above the limit, and at which slot's turn.
-#[derive(Clone, Copy)]
-pub enum Passed {
-    All,
-    Over(Operation, u64),
-}
-
 // The number of a refusal at the limit.
 fn refusal_of(by: Operation) -> u8
     ensures { result ≡ refusal_of by }
@@ -82,49 +68,50 @@ fn gate(image: &[u8], starts: &[usize], frame: Frame, entry: Entry) -> Sizing
     }
 }
 
-// One place of the declaration list.
-fn take_turn(image: &[u8], starts: &[usize], scope: Scope, rows: &mut [u64], slot: u64) -> Taken
+// One place of the declaration list, or what made the first number above the limit.
+fn take_turn(
+    image: &[u8],
+    starts: &[usize],
+    scope: Scope,
+    rows: &mut [u64],
+    slot: u64,
+) -> Result<(), Operation>
     requires { Promise image.now starts.now (frame_of scope) × (3 * scope.slots ≤ length rows.old) × Held (schema_of scope.edition image.now) rows.old }
     ensures { (l : List ℕ) (st : State) → 3 * length (schema_of scope.edition image.now).slots ≤ length l → rows.old ≡ sets l 0 (table_of (schema_of scope.edition image.now) st) → TurnTaken scope.layout (schema_of scope.edition image.now) st slot l rows.new result }
 {
     if scope.slots <= slot {
-        return Taken::On;
+        return Ok(());
     }
     let i = slot as usize;
     match wiresize::own_size(image, starts, scope, rows, i) {
         Turned::Sized(size) => {
             rows::put_row(rows, i, rows::size_row(size));
-            Taken::On
+            Ok(())
         }
-        Turned::Over(by) => Taken::Over(by),
-        Turned::Other => Taken::On,
+        Turned::Over(by) => Err(by),
+        Turned::Other => Ok(()),
     }
 }
 
-// All places in order, up to the first at which a number passes the limit.
-fn take_turns(image: &[u8], starts: &[usize], scope: Scope, rows: &mut [u64]) -> Passed
+// All places in order, or what made the first number above the limit, and at which slot's turn.
+fn take_turns(
+    image: &[u8],
+    starts: &[usize],
+    scope: Scope,
+    rows: &mut [u64],
+) -> Result<(), (Operation, u64)>
     requires { Promise image.now starts.now (frame_of scope) × (3 * scope.slots ≤ length rows.old) × Begun (schema_of scope.edition image.now) rows.old }
     ensures { (l : List ℕ) → 3 * length (schema_of scope.edition image.now).slots ≤ length l → rows.old ≡ sets l 0 (table_of (schema_of scope.edition image.now) (brought (schema_of scope.edition image.now))) → Through scope.layout (schema_of scope.edition image.now) l rows.new result }
 {
-    let mut left = scope.declarations;
     let mut p = scope.declared;
-    while 0 < left {
-        match number::read_below(image, p, 4294967296) {
-            Ranged::Value(slot, after) => match take_turn(image, starts, scope, rows, slot) {
-                Taken::On => {
-                    p = after;
-                    left -= 1;
-                }
-                Taken::Over(by) => {
-                    return Passed::Over(by, slot);
-                }
-            },
-            Ranged::Refused(_, q) => {
-                return Passed::All;
-            }
-        }
+    for _ in 0..scope.declarations {
+        let Ranged::Value(slot, after) = number::read_below(image, p, 4294967296) else {
+            return Ok(());
+        };
+        take_turn(image, starts, scope, rows, slot).map_err(|by| (by, slot))?;
+        p = after;
     }
-    Passed::All
+    Ok(())
 }
 
 // Refusals 10, 11 and 14, or the table. The rows are worked on where the caller finds them.
@@ -155,8 +142,8 @@ fn work_out(
     }
     rows::fill_rows(image, starts, frame, sizes);
     match take_turns(image, starts, scope, sizes) {
-        Passed::All => Sizing::Accepted,
-        Passed::Over(by, slot) => {
+        Ok(()) => Sizing::Accepted,
+        Err((by, slot)) => {
             table::clear(sizes);
             Sizing::Refused(refusal_of(by), slot)
         }

@@ -1,4 +1,3 @@
 pub mod Known
 pub mod Long
-pub mod Reading
 pub mod Writing

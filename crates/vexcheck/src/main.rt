@@ -3,96 +3,49 @@
 // any reader, and says what it makes of one whose bytes are known.
 #![tactic(auto)]
 
-ghost use Rattle.std.specs.Prelude.{◌+◌, ◌≤◌, ◌<◌, ◌^◌, ◌≡◌, length};
-ghost use Rattle.lines.specs.Lines.{Written};
-ghost use Rattle.vexcheck.specs.Input.{count_of, taken_of, step_of, text_of_input, TookFrom, TookAll, AnswersInput};
+ghost use Rattle.std.specs.Prelude.{◌+◌, ◌≤◌, ◌<◌, ◌^◌, ◌≡◌, length, IfOk};
+ghost use Rattle.vexcheck.specs.Input.{step_of, text_of_input, TookAll, AnswersInput};
 
 use std::io;
 use std::io::Read;
 
-// What standard input gave: so many bytes, or a read that failed.
-#[derive(Clone, Copy)]
-enum Taken {
-    Bytes(usize),
-    Failed,
-}
-
-// What follows a read: another, to this place; or nothing.
-#[derive(Clone, Copy)]
-enum Step {
-    On(usize),
-    Stop(Taken),
-}
-
-// What a read means by its answer.
-fn outcome(got: io::Result<usize>, buf: &[u8]) -> Taken
-    ensures { result ≡ taken_of got (length buf.now) }
+// Where to go on behind a read: a failed one fails the whole, and one without bytes is the end.
+#[tactic(auto, unfolding(crate::specs::Input::step_of))]
+fn after_read(at: usize, got: io::Result<usize>) -> io::Result<Option<usize>>
+    requires { IfOk got (λ n. at + n < 2 ^ 64) }
+    ensures { result ≡ step_of at got }
 {
-    match got {
-        Ok(n) => Taken::Bytes(n.min(buf.len())),
-        Err(_) => Taken::Failed,
+    match got? {
+        0 => Ok(None),
+        n => Ok(Some(at + n)),
     }
 }
 
-// One read: how many bytes it put at the front of the buffer, or that it failed.
-fn take_some<R: Read>(input: &mut R, buf: &mut [u8]) -> Taken
-    ensures within { count_of result ≤ length buf.new }
-    ensures bytes { TookFrom (R.remaining input.old) (R.remaining input.new) result buf.new }
-{
-    let got = input.read(buf);
-    outcome(got, buf)
-}
-
-// A failed read fails the whole; one without bytes is the end.
-fn after_read(at: usize, taken: Taken) -> Step
-    requires { at + count_of taken < 2 ^ 64 }
-    ensures { result ≡ step_of at taken }
-{
-    match taken {
-        Taken::Failed => Step::Stop(Taken::Failed),
-        Taken::Bytes(n) => {
-            if n == 0 {
-                return Step::Stop(Taken::Bytes(at));
-            }
-            Step::On(at + n)
-        }
-    }
-}
-
-// Reads until the buffer is full, the input ends or a read fails.
-fn take_all<R: Read>(input: &mut R, buf: &mut [u8]) -> Taken
-    ensures within { count_of result ≤ length buf.new }
+// Reads until the buffer is full or the input ends. Answers how many bytes stand at the front; a failed read fails the whole.
+fn take_all<R: Read>(input: &mut R, buf: &mut [u8]) -> io::Result<usize>
+    ensures within { IfOk result (λ n. n ≤ length buf.new) }
     ensures bytes { TookAll (R.remaining input.old) result buf.new }
 {
-    let mut at: usize = 0;
+    let mut at = 0;
     while at < buf.len() {
-        let taken = take_some(input, &mut buf[at..]);
-        match after_read(at, taken) {
-            Step::On(next) => at = next,
-            Step::Stop(all) => return all,
+        match after_read(at, input.read(&mut buf[at..]))? {
+            Some(next) => at = next,
+            None => break,
         }
     }
-    Taken::Bytes(at)
-}
-
-fn write_text(taken: Taken, image: &[u8], out: &mut [u8]) -> usize
-    requires { count_of taken ≤ length image.now }
-    ensures { Written (length out.old) (text_of_input taken image.now) out.new result }
-{
-    match taken {
-        Taken::Failed => lines::write_refused(0, 0, out),
-        Taken::Bytes(n) => report::report(&image[0..n], out),
-    }
+    Ok(at)
 }
 
 // The text for whatever standard input brought, whole.
-fn text<'a>(taken: Taken, image: &[u8], out: &'a mut [u8]) -> &'a [u8]
-    requires { (count_of taken ≤ length image.now) × (180000 ≤ length out.old) }
+fn text<'a>(taken: io::Result<usize>, image: &[u8], out: &'a mut [u8]) -> &'a [u8]
+    requires { IfOk taken (λ n. n ≤ length image.now) × (180000 ≤ length out.old) }
     ensures { result.now ≡ text_of_input taken image.now }
 {
-    let used = write_text(taken, image, out);
-    let written = &out[..];
-    &written[0..used]
+    let used = match taken {
+        Ok(n) => report::report(&image[..n], out),
+        Err(_) => lines::write_refused(0, 0, out),
+    };
+    &out[..used]
 }
 
 // Reads an image and answers its text. The buffer for it has a place more than an image may have bytes, so that a longer one

@@ -1,10 +1,10 @@
 // What C and Rust programs link.
 #![tactic(auto)]
 
-ghost use Rattle.std.specs.Prelude.{◌≡◌, length, get_or};
+ghost use Rattle.std.specs.Prelude.{◌≡◌, length};
 ghost use Rattle.table.specs.Fitted.{fitted};
 ghost use Rattle.typeck.specs.Check as check;
-ghost use Rattle.vexil.specs.Answer.{number_of, value_of, ReadTold, SizesTold, Told};
+ghost use Rattle.vexil.specs.Answer.{number_of, value_of, sizing_number, sizing_value, ReadTold, SizesTold, Told};
 
 use reader::{Read, Reading};
 use slot::Edition;
@@ -20,26 +20,12 @@ pub struct Answer {
     pub value: u64,
 }
 
-fn answered(number: u64, value: u64) -> Answer
-    ensures { (result.number ≡ number) × (result.value ≡ value) }
-{
-    Answer { number, value }
-}
-
-fn place_of(table: &[usize], i: usize) -> usize
-    ensures { result ≡ get_or table.now i 0 }
-{
-    if i < table.len() { table[i] } else { 0 }
-}
-
 // Writes a table into one of another length.
 fn fit(table: &[usize], into: &mut [usize])
     ensures { into.new ≡ fitted (length into.old) table.now }
 {
-    let mut i: usize = 0;
-    while i < into.len() {
-        into[i] = place_of(table, i);
-        i += 1;
+    for (i, place) in into.iter_mut().enumerate() {
+        *place = table.get(i).copied().unwrap_or(0);
     }
 }
 
@@ -47,13 +33,12 @@ fn fit(table: &[usize], into: &mut [usize])
 fn tell_read(read: Read, starts: &mut [usize]) -> Answer
     ensures { (result.number ≡ number_of read.answer) × (result.value ≡ value_of read.answer) × (starts.new ≡ fitted (length starts.old) read.starts) }
 {
-    let table = read.starts;
-    fit(&table, starts);
-    let answer = read.answer;
-    match answer {
-        Reading::Accepted(frame) => answered(0, frame.slots),
-        Reading::Refused(number, place) => answered(number as u64, place as u64),
-    }
+    fit(&read.starts, starts);
+    let (number, value) = match read.answer {
+        Reading::Accepted(frame) => (0, frame.slots),
+        Reading::Refused(number, place) => (u64::from(number), place as u64),
+    };
+    Answer { number, value }
 }
 
 // Reads an image of edition one. The table gets where each slot starts, as far as it reaches, and zeros after.
@@ -61,8 +46,7 @@ fn tell_read(read: Read, starts: &mut [usize]) -> Answer
 pub extern "C" fn vexil_read(image: &[u8], starts: &mut [usize]) -> Answer
     ensures { ReadTold Edition.One image.now starts.old starts.new result.number result.value }
 {
-    let read = reader::read_schema(image);
-    tell_read(read, starts)
+    tell_read(reader::read_schema(image), starts)
 }
 
 // Reads an image of edition two. The table gets where each slot starts, as far as it reaches, and zeros after.
@@ -70,8 +54,17 @@ pub extern "C" fn vexil_read(image: &[u8], starts: &mut [usize]) -> Answer
 pub extern "C" fn vexil_read_two(image: &[u8], starts: &mut [usize]) -> Answer
     ensures { ReadTold Edition.Two image.now starts.old starts.new result.number result.value }
 {
-    let read = reader::read_schema_two(image);
-    tell_read(read, starts)
+    tell_read(reader::read_schema_two(image), starts)
+}
+
+fn tell_sizing(sizing: Sizing) -> Answer
+    ensures { (result.number ≡ sizing_number sizing) × (result.value ≡ sizing_value sizing) }
+{
+    let (number, value) = match sizing {
+        Sizing::Accepted => (0, 0),
+        Sizing::Refused(number, place) => (u64::from(number), place),
+    };
+    Answer { number, value }
 }
 
 // Widths and sizes of an image of edition one: three numbers a slot in the table.
@@ -79,19 +72,17 @@ pub extern "C" fn vexil_read_two(image: &[u8], starts: &mut [usize]) -> Answer
 pub extern "C" fn vexil_sizes(image: &[u8], sizes: &mut [u64]) -> Answer
     ensures { SizesTold image.now sizes.old sizes.new result.number result.value }
 {
-    match turns::compute_sizes(image, sizes) {
-        Sizing::Accepted => answered(0, 0),
-        Sizing::Refused(number, place) => answered(number as u64, place),
-    }
+    tell_sizing(turns::compute_sizes(image, sizes))
 }
 
 fn tell_verdict(verdict: Verdict) -> Answer
     ensures { (result.number ≡ check.number_of verdict) × (result.value ≡ check.value_of verdict) }
 {
-    match verdict {
-        Verdict::Accepted(count) => answered(0, count),
-        Verdict::Refused(number, place) => answered(number as u64, place),
-    }
+    let (number, value) = match verdict {
+        Verdict::Accepted(count) => (0, count),
+        Verdict::Refused(number, place) => (u64::from(number), place),
+    };
+    Answer { number, value }
 }
 
 // The whole check of an image of edition one: three numbers a slot, six a finding.

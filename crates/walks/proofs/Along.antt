@@ -23,9 +23,6 @@ before h e = omega arith
 pub behind : {a b c : ℕ} → b ≤ a → b ≡ c → c ≤ a
 behind h e = omega arith
 
-pub ordered : {a b c d : ℕ} → a ≤ b → a ≡ c → b ≡ d → c ≤ d
-ordered h e f = omega arith
-
 -- ## A name
 
 -- a slot that is entered
@@ -39,9 +36,9 @@ module _ (i : ℕ) (il : i < 512) (st : RecursionState) (w : Whole st) (v : get_
   inside_fits S f = rw en (omega (arith, spent st.visited (λ x. length (slot_names (slot_of S x))) i (omega (arith, w.visited)) v))
 
 -- the name of a part, and whether it is direct
-module _ (messages : List Bool) (first parts : List ℕ) (p : ℕ) (d e : Bool) (st : RecursionState) (is : e ≡ (d && eqb (p % 2) 1)) where
+module _ (messages : List Bool) (first parts : List ℕ) (p i : ℕ) (own : i ≡ p / 2) (d e : Bool) (st : RecursionState) (is : e ≡ (d && eqb (p % 2) 1)) where
   -- from what the walk of a name says, whatever the schema
-  told : (r : RecursionState) → ((S : Schema) → Held S messages first parts → (n : ℕ) → unvisited st.visited < suc n → r ≡ walk_name S (suc n) (p / 2) e st)
+  told : (r : RecursionState) → ((S : Schema) → Held S messages first parts → (n : ℕ) → unvisited st.visited < suc n → r ≡ walk_name S (suc n) i e st)
       → PartWalked messages first parts p d st r
   unfolding walk_part
   told r h =
@@ -49,33 +46,33 @@ module _ (messages : List Bool) (first parts : List ℕ) (p : ℕ) (d e : Bool) 
         walked = λ S held n l.
             let k : n ≡ suc (n - 1) = omega arith in
             subst (λ (m : ℕ). r ≡ walk_name S m (p / 2) (d && eqb (p % 2) 1) st) (sym k)
-            (h S held (n - 1) (omega arith) ∙ ap (λ (b : Bool). walk_name S (suc (n - 1)) (p / 2) b st) is);
+            (h S held (n - 1) (omega arith) ∙ ap₂ (λ (x : ℕ) (b : Bool). walk_name S (suc (n - 1)) x b st) own is);
       }
 
-  pub name_past : 512 ≤ p / 2 → Whole st → PartWalked messages first parts p d st st
-  name_past h w = told st (λ S held n l. sym ((steady S held.few (suc n)).past (p / 2) e st h w))
+  pub name_past : 512 ≤ i → Whole st → PartWalked messages first parts p d st st
+  name_past h w = told st (λ S held n l. sym ((steady S held.few (suc n)).past i e st h w))
 
-  pub name_found : get_or st.path (p / 2) false ≡ true → e ≡ true → PartWalked messages first parts p d st (counted st)
+  pub name_found : get_or st.path i false ≡ true → e ≡ true → PartWalked messages first parts p d st (counted st)
   unfolding walk_name
   name_found h g = told (counted st) (λ S held n l. rw (h, g))
 
-  pub name_back : get_or st.path (p / 2) false ≡ true → e ≡ false → PartWalked messages first parts p d st st
+  pub name_back : get_or st.path i false ≡ true → e ≡ false → PartWalked messages first parts p d st st
   unfolding walk_name
   name_back h g = told st (λ S held n l. rw (h, g))
 
-  pub name_visited : get_or st.path (p / 2) false ≡ false → get_or st.visited (p / 2) false ≡ true → PartWalked messages first parts p d st st
+  pub name_visited : get_or st.path i false ≡ false → get_or st.visited i false ≡ true → PartWalked messages first parts p d st st
   unfolding walk_name
   name_visited h g = told st (λ S held n l. rw (h, g))
 
   -- a slot that is entered
-  module _ (i : ℕ) (own : i ≡ p / 2) (il : i < 512) (w : Whole st) (v : get_or st.visited i false ≡ false) (j : Bool) (s : RecursionState) (en : s ≡ entered i j st) where
+  module _ (il : i < 512) (w : Whole st) (v : get_or st.visited i false ≡ false) (j : Bool) (s : RecursionState) (en : s ≡ entered i j st) where
     pub name_inside : get_or st.path i false ≡ false → j ≡ (get_or messages i false && e) → (a r : RecursionState) → SlotWalked messages first parts i e s a → r ≡ left i j a
         → PartWalked messages first parts p d st r
     unfolding walk_name
     name_inside h jo a r ro le = told r (λ S held n l.
         let k : j ≡ (is_message (slot_of S i) && e) = jo ∙ ap (λ (b : Bool). b && e) (held.message i) in
         let f = inside_fewer i il st w v j s en in
-        rw (← own, h, v)
+        rw (h, v)
         (le
         ∙ ap₂ (λ (b : Bool) (t : RecursionState). left i b t) k (ro.walked S held n (omega arith) ∙ ap (walk_parts (λ x y z. walk_name S n x y z) e (slot_names (slot_of S i))) (en ∙ ap (λ (b : Bool). entered i b st) k))
         ∙ sym (slot_walk S (λ x y z. walk_name S n x y z) (steady S held.few n) e i (slot_of S i) st w)))

@@ -8,49 +8,33 @@ ghost use Rattle.walks.specs.Walk.{Asked, PartWalked, SlotWalked, own_names, Cou
 
 use findings::RecursionState;
 
-fn both(a: bool, b: bool) -> bool
-    ensures { result ≡ (a && b) }
-{
-    if a { b } else { false }
-}
-
-fn place(first: &[u16], i: usize) -> usize
-    requires { i < length first.now }
-    ensures { result ≡ get_or first.now i 0 }
-{
-    first[i] as usize
-}
-
-fn count_one(state: RecursionState) -> RecursionState
+fn count_one(mut state: RecursionState) -> RecursionState
     requires { state.count < 2 ^ 32 }
     ensures { result ≡ counted state }
 {
-    let mut s = state;
-    s.count = state.count + 1;
-    s
+    state.count += 1;
+    state
 }
 
-fn enter(state: RecursionState, slot: usize, joins: bool) -> RecursionState
+fn enter(mut state: RecursionState, slot: usize, joins: bool) -> RecursionState
     requires { slot < 512 }
     ensures { result ≡ entered slot joins state }
 {
-    let mut s = state;
-    s.visited[slot] = true;
+    state.visited[slot] = true;
     if joins {
-        s.path[slot] = true;
+        state.path[slot] = true;
     }
-    s
+    state
 }
 
-fn leave(state: RecursionState, slot: usize, joins: bool) -> RecursionState
+fn leave(mut state: RecursionState, slot: usize, joins: bool) -> RecursionState
     requires { slot < 512 }
     ensures { result ≡ left slot joins state }
 {
-    let mut s = state;
     if joins {
-        s.path[slot] = false;
+        state.path[slot] = false;
     }
-    s
+    state
 }
 
 // A name: 2 * id + 1 where it stands bare, 2 * id where another type or a union holds it.
@@ -66,21 +50,18 @@ fn walk_type_for_recursion(
     requires { Asked messages.now first.now parts.now state (λ S. 0) }
     ensures { PartWalked messages.now first.now parts.now part direct state result }
 {
-    let bare = both(direct, part % 2 == 1);
-    let id = (part / 2) as usize;
+    let bare = direct && part % 2 == 1;
+    let id = usize::from(part / 2);
     if id >= 512 {
         return state;
     }
     if state.path[id] {
-        if bare {
-            return count_one(state);
-        }
-        return state;
+        return if bare { count_one(state) } else { state };
     }
     if state.visited[id] {
         return state;
     }
-    let joins = both(messages[id], bare);
+    let joins = messages[id] && bare;
     let inside = enter(state, id, joins);
     let after = walk_slot(messages, first, parts, id, bare, inside);
     leave(after, id, joins)
@@ -99,15 +80,12 @@ fn walk_slot(
     requires { Asked messages.now first.now parts.now state (own_names slot) × (slot < 512) }
     ensures { SlotWalked messages.now first.now parts.now slot direct state result }
 {
-    let end = place(first, slot + 1);
-    let mut p = place(first, slot);
-    let mut s = state;
-    while p < end {
-        let part = parts[p];
-        s = walk_type_for_recursion(messages, first, parts, part, direct, s);
-        p += 1;
+    let mut after = state;
+    // By index: that the names do not end before they start is not known, and a slice would ask it.
+    for p in usize::from(first[slot])..usize::from(first[slot + 1]) {
+        after = walk_type_for_recursion(messages, first, parts, parts[p], direct, after);
     }
-    s
+    after
 }
 
 // How often the message in a slot holds itself. One without names is passed over.
@@ -115,7 +93,7 @@ pub fn count_recursion(messages: &[bool], first: &[u16], parts: &[u16], slot: us
     requires { Countable messages.now first.now parts.now slot }
     ensures { Counted messages.now first.now parts.now slot result }
 {
-    if place(first, slot + 1) <= place(first, slot) {
+    if first[slot + 1] <= first[slot] {
         return 0;
     }
     let mut path = [false; 512];

@@ -1,16 +1,7 @@
 use native.Mathlib.Omega.{arith}
 use mathlib.Core.Path.{◌≡◌}
-use Rattle.bare.proofs.Runs.{rows_start, rows_on}
+use Rattle.bare.proofs.Runs.{rows_on}
 use Rattle.bare.proofs.mark_bare.Goals as goal
 
-pub loop-i-init : goal.loop-i-init
-loop-i-init c = (omega arith, rows_start _ _)
-
-pub mark_slot-requires : goal.mark_slot-requires
-mark_slot-requires c = (c.requires.0, c.loop-i-test.true, omega (arith, c.requires.1, c.loop-i.invariant.1.long, c.loop-i-test.true))
-
-pub loop-i-preserved : goal.loop-i-preserved
-loop-i-preserved c = (omega arith, rows_on _ _ _ _ _ c.loop-i.invariant.1 c.mark_slot.ensures)
-
-pub returns : goal.returns
-returns c = let z : c.loop-i.i ≡ c.args.frame.slots = omega arith in rw z at c.loop-i.invariant.1
+pub loop-slot-preserved : goal.loop-slot-preserved
+loop-slot-preserved c = rows_on _ _ _ _ _ c.loop-slot.invariant c.mark_slot.ensures

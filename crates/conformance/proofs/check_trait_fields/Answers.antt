@@ -1,3 +1,4 @@
+use native.Mathlib.Omega.{arith}
 use mathlib.Core.Path.{sym, ◌∙◌}
 use Rattle.conformance.proofs.Targets.{no_name, past_slots, no_part, not_there, targeted, required, wrong_kind}
 use Rattle.conformance.proofs.check_trait_fields.Goals as goal
@@ -15,7 +16,7 @@ pub returns-in-1 : goal.returns-in-1
 returns-in-1 c = required _ _ _ _ _ _ _ _ c.type_value.ensures _ c.in-Id.is c.if-frame-target.false _ _ (sym c.slot_part.ensures ∙ c.in-At.is) c.in-1.is _ c.slot_inside.ensures _ _ _ c.check_required_fields.ensures
 
 pub returns-in_default : goal.returns-in_default
-returns-in_default c = let r = c.in_default.in_default-own.rest in wrong_kind _ _ _ _ _ _ _ _ c.type_value.ensures _ c.in-Id.is c.if-frame-target.false _ _ (sym c.slot_part.ensures ∙ c.in-At.is) r.0.1 r.1 _ c.own_finding.ensures _ _ _ c.put_unless.ensures
+returns-in_default c = wrong_kind _ _ _ _ _ _ _ _ c.type_value.ensures _ c.in-Id.is c.if-frame-target.false _ _ (sym c.slot_part.ensures ∙ c.in-At.is) (λ z. omega arith) (λ z. omega arith) _ c.own_finding.ensures _ _ _ c.add_finding.ensures
 
 pub returns-in-Missing : goal.returns-in-Missing
 returns-in-Missing c = no_part _ _ _ _ _ _ _ _ c.type_value.ensures _ c.in-Id.is c.if-frame-target.false (sym c.slot_part.ensures ∙ c.in-Missing.is) _

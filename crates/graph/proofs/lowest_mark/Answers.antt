@@ -1,17 +1,12 @@
-use native.Mathlib.Omega.{arith}
-use native.Mathlib.Nat.{sub-zero}
 use mathlib.Core.Path.{sym, ◌∙◌}
 use Rattle.graph.proofs.Rows.{low_none, low_at, low_next}
 use Rattle.graph.proofs.lowest_mark.Goals as goal
 
-pub loop-i-init : goal.loop-i-init
-loop-i-init c = (omega arith, simp sub-zero)
-
 pub returns-then-leads : goal.returns-then-leads
-returns-then-leads c = sym (c.loop-i.invariant.1 ∙ low_at _ _ _ c.loop-i-test.true (sym c.leads.ensures ∙ c.if-leads.true))
+returns-then-leads c = sym (c.loop-i.invariant ∙ low_at _ _ _ c.loop-i-test.true (sym c.leads.ensures ∙ c.if-leads.true))
 
 pub loop-i-preserved : goal.loop-i-preserved
-loop-i-preserved c = (omega arith, c.loop-i.invariant.1 ∙ low_next _ _ _ c.loop-i-test.true (sym c.leads.ensures ∙ c.if-leads.false))
+loop-i-preserved c = c.loop-i.invariant ∙ low_next _ _ _ c.loop-i-test.true (sym c.leads.ensures ∙ c.if-leads.false)
 
 pub returns : goal.returns
-returns c = sym (c.loop-i.invariant.1 ∙ low_none _ _ _ c.loop-i-test.false)
+returns c = sym (c.loop-i.invariant ∙ low_none _ _ _ c.loop-i-test.false)

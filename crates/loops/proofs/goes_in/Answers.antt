@@ -1,22 +1,21 @@
 -- Elements of Array (kind 5), Set and Map (7 and 8) are passed over in types, and none in expressions. Assumes nothing.
+use native.Mathlib.Omega.{arith}
 use Rattle.graph.specs.Ways.{has}
 use Rattle.loops.specs.Marks.{enters}
 use Rattle.loops.proofs.Marking.{enters_rest, enters_not}
-use native.Mathlib.Omega.{arith}
 use Rattle.loops.proofs.goes_in.Goals as goal
+use Rattle.loops.proofs.goes_in.Goals.{in_default, in_default-2, in-5, in-5-2}
 
-pub returns-in_default : goal.returns-in_default
-returns-in_default c = rw c.in-Resolved.is (enters_rest _ (λ e. omega arith) (λ e. omega arith) (λ e. omega arith))
-
-pub returns-in_default-2 : goal.returns-in_default-2
-returns-in_default-2 c = rw c.in-Resolved.is (enters_rest _ (λ e. omega arith) (λ e. omega arith) (λ e. omega arith))
-
-pub returns-in-5 : goal.returns-in-5
+pub returns-after-matches : goal.returns-after-matches
 unfolding enters has
-returns-in-5 c = rw (c.in-Resolved.is, c.in-5.is)
-
-pub returns-in-5-2 : goal.returns-in-5-2
-returns-in-5-2 c = rw c.in-Resolved.is (enters_not _ (omega arith) (omega arith))
+returns-after-matches c =
+    rw c.in-Resolved.is
+    (elim c.match-matches.branch [
+      | in_default w ↦ rw w.matches-is (enters_rest c.args.kind (λ e. omega arith) (λ e. omega arith) (λ e. omega arith))
+      | in_default-2 w ↦ rw w.matches-is (enters_rest c.args.kind (λ e. omega arith) (λ e. omega arith) (λ e. omega arith))
+      | in-5 w ↦ rw (w.matches-is, w.in-5.is)
+      | in-5-2 w ↦ rw w.matches-is (enters_not c.args.kind (omega arith) (omega arith))
+    ])
 
 pub returns-in-Expression : goal.returns-in-Expression
 unfolding enters

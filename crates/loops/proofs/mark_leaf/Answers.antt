@@ -1,15 +1,24 @@
 -- Of the leaves of a type a name is marked, and of those of an expression none. Assumes nothing.
-use mathlib.Core.Path.{refl, sym, ◌∙◌}
-use Rattle.loops.specs.Leads.{tree_slots, generic_slots}
-use Rattle.loops.proofs.Marking.{led_none, led_one, leaf_none, leaf_named}
+use mathlib.Core.Path.{sym, ◌∙◌}
+use Rattle.loops.proofs.Marking.{led_none, led_one, leaf_other, leaf_named}
 use Rattle.loops.proofs.mark_leaf.Goals as goal
+use Rattle.loops.proofs.mark_leaf.Goals.{in-Resolved, in_default, else-matches-via-then-matches+else-kind-eq3, else-matches-via-else-matches}
 
-pub returns-in-3 : goal.returns-in-3
-returns-in-3 c = λ finds l k v. rw c.in-Resolved.is (led_one _ c.mark.ensures (leaf_named finds l _ (k ∙ c.in-3.is) v))
+pub returns-then-kind-eq3 : goal.returns-then-kind-eq3
+returns-then-kind-eq3 c =
+    λ finds l k v.
+    elim c.match-matches.branch [
+      | in-Resolved w ↦ rw w.in-Resolved.is (led_one _ c.mark.ensures (leaf_named finds l _ (k ∙ c.if-kind-eq3.true) v))
+      | in_default w ↦ absurd cc
+    ]
 
-pub returns-in_default : goal.returns-in_default
-returns-in_default c = λ finds l k v. rw c.in-Resolved.is (led_none _ (leaf_none finds l (λ e. c.in_default.in_default-own.rest.1 (sym k ∙ e))))
-
-pub returns-in-Expression : goal.returns-in-Expression
-unfolding tree_slots generic_slots
-returns-in-Expression c = λ finds l k v. rw c.in-Expression.is (led_none _ refl)
+pub returns-else-matches : goal.returns-else-matches
+returns-else-matches c =
+    λ finds l k v.
+    led_none _
+    (leaf_other finds c.args.sort l
+    (λ r e.
+    elim c.else-matches.branch [
+      | else-matches-via-then-matches+else-kind-eq3 w ↦ w.if-kind-eq3.false (sym k ∙ e)
+      | else-matches-via-else-matches w ↦ elim c.match-matches.branch [ in-Resolved v ↦ cc | in_default v ↦ v.in_default.not-Resolved r ]
+    ]))

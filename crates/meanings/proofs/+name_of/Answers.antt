@@ -18,7 +18,7 @@ alias_of-requires t c = c.requires.ready
 pub name_of-meant-requires : goal.name_of-meant-requires
 name_of-meant-requires t c =
     let x = sym c.read_head.ensures ∙ c.in-Generic.is in
-    let w = alias_told _ _ _ _ c.in-At.is c.alias_of.ensures in
+    let w = alias_told _ _ _ _ c.in-Some.is c.alias_of.ensures in
     (omega (arith, c.decreases, target_less _ _ _ _ _ _ _ _ c.requires _ _ x _ _ w), target_asked _ _ _ _ _ _ _ _ c.requires _ _ x _ _ w _ _ refl)
 
 pub returns-in-Leaf : goal.returns-in-Leaf
@@ -33,11 +33,11 @@ returns-in-Two t c = name_two _ _ _ _ _ _ _ _ c.requires _ _ (sym c.read_head.en
 pub returns-in-Sized : goal.returns-in-Sized
 returns-in-Sized t c = name_sized _ _ _ _ _ _ _ _ c.requires _ (sym c.read_head.ensures ∙ c.in-Sized.is)
 
-pub returns-in-At : goal.returns-in-At
-returns-in-At t c = name_alias _ _ _ _ _ _ _ _ c.requires _ _ (sym c.read_head.ensures ∙ c.in-Generic.is) _ _ (alias_told _ _ _ _ c.in-At.is c.alias_of.ensures) _ _ _ c.name_of-inner.ensures c.name_of-meant.ensures c.name_or_unfound.ensures
+pub returns-in-Some : goal.returns-in-Some
+returns-in-Some t c = name_alias _ _ _ _ _ _ _ _ c.requires _ _ (sym c.read_head.ensures ∙ c.in-Generic.is) _ _ (alias_told _ _ _ _ c.in-Some.is c.alias_of.ensures) _ _ _ c.name_of-inner.ensures c.name_of-meant.ensures c.name_or_unfound.ensures
 
-pub returns-in-Nothing : goal.returns-in-Nothing
-returns-in-Nothing t c = name_none _ _ _ _ _ _ _ _ c.requires _ _ (sym c.read_head.ensures ∙ c.in-Generic.is) (alias_told _ _ _ _ c.in-Nothing.is c.alias_of.ensures)
+pub returns-in-None : goal.returns-in-None
+returns-in-None t c = name_none _ _ _ _ _ _ _ _ c.requires _ _ (sym c.read_head.ensures ∙ c.in-Generic.is) (alias_told _ _ _ _ c.in-None.is c.alias_of.ensures)
 
 pub returns-in-Refused : goal.returns-in-Refused
 returns-in-Refused t c = name_refused _ _ _ _ _ _ _ _ c.requires _ _ _ (sym c.read_head.ensures ∙ c.in-Refused.is)

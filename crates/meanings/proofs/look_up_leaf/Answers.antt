@@ -1,10 +1,9 @@
-use native.Mathlib.Omega.{arith}
 use mathlib.Core.Path.{refl}
 use Rattle.meanings.proofs.Noting.{look_name, look_other}
 use Rattle.meanings.proofs.look_up_leaf.Goals as goal
 
-pub returns-in-3 : goal.returns-in-3
-returns-in-3 c = record { small = omega (arith, c.argument-looked.ensures.one, c.note.ensures.count); right = look_name _ _ _ _ _ _ _ _ _ c.in-3.is _ c.argument-looked.ensures.right _ _ c.argument-looked.ensures.one c.note.ensures.count c.note.ensures.table }
+pub returns-then-kind-ne3-clause-right : goal.returns-then-kind-ne3-clause-right
+returns-then-kind-ne3-clause-right c = look_other _ _ _ _ _ _ _ _ _ c.if-kind-ne3.true refl
 
-pub returns-in_default : goal.returns-in_default
-returns-in_default c = record { small = omega arith; right = look_other _ _ _ _ _ _ _ _ _ c.in_default.in_default-own.rest.1 refl }
+pub returns-clause-right : goal.returns-clause-right
+returns-clause-right c = look_name _ _ _ _ _ _ _ _ _ c.if-kind-ne3.false _ c.argument-found.ensures c.put.ensures

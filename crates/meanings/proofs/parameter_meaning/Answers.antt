@@ -8,10 +8,10 @@ pub returns-else-code-lt2 : goal.returns-else-code-lt2
 returns-else-code-lt2 c = table_at _ _ _ _ _ _ c.in-Types.is _ c.place-code.ensures c.if-code-lt2.false
 
 pub returns-in-Id : goal.returns-in-Id
-returns-in-Id c = first_id _ _ _ _ _ _ _ _ c.in-One.is _ c.is_first-first.ensures _ c.if-first.true c.in-Id.is
+returns-in-Id c = first_id _ _ _ _ _ _ _ _ c.in-One.is _ c.is_first.ensures _ c.if-not-is_first.false c.in-Id.is
 
 pub returns-in-NotName : goal.returns-in-NotName
-returns-in-NotName c = first_no_name _ _ _ _ _ _ _ _ c.in-One.is _ c.is_first-first.ensures c.if-first.true c.in-NotName.is
+returns-in-NotName c = first_no_name _ _ _ _ _ _ _ _ c.in-One.is _ c.is_first.ensures c.if-not-is_first.false c.in-NotName.is
 
-pub returns-else-first : goal.returns-else-first
-returns-else-first c = not_first _ _ _ _ _ _ _ _ c.in-One.is _ c.is_first-first.ensures _ c.if-first.false c.resolve-else-first.ensures
+pub returns-then-not-is_first : goal.returns-then-not-is_first
+returns-then-not-is_first c = not_first _ _ _ _ _ _ _ _ c.in-One.is _ c.is_first.ensures _ c.if-not-is_first.true c.resolve-then-not-is_first.ensures

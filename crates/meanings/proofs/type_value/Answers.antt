@@ -1,4 +1,5 @@
 use mathlib.Core.Path.{sym, ◌∙◌}
+use native.Mathlib.Omega.{arith}
 use Rattle.meanings.proofs.Leaves.{shape_is, name_is_lem, leaf_is}
 use Rattle.meanings.proofs.type_value.Goals as goal
 
@@ -6,7 +7,7 @@ pub returns-in-3 : goal.returns-in-3
 returns-in-3 c = name_is_lem _ _ _ _ _ _ _ (sym c.read_head.ensures ∙ c.in-Leaf.is) c.in-3.is
 
 pub returns-in_default : goal.returns-in_default
-returns-in_default c = leaf_is _ _ _ _ _ _ _ (sym c.read_head.ensures ∙ c.in-Leaf.is) c.in_default.in_default-own.rest.1
+returns-in_default c = leaf_is _ _ _ _ _ _ _ (sym c.read_head.ensures ∙ c.in-Leaf.is) (λ z. omega arith)
 
 pub returns-in-One : goal.returns-in-One
 returns-in-One c = shape_is _ _ _ _ (sym c.read_head.ensures ∙ c.in-One.is)

@@ -1,4 +1,3 @@
-use Prim.Native.Nat.{◌-◌}
 use mathlib.Core.Path.{ap, ◌∙◌}
 use mathlib.Core.List.{List}
 use mathlib.Core.Bool.{Bool}
@@ -10,7 +9,7 @@ use Rattle.once.proofs.arrange_slots.Goals as goal
 pub arrange-requires : goal.arrange-requires
 arrange-requires c =
     let p = c.requires in
-    (record { few = p.0.few; long = omega (arith, p.1.leads_room, c.mark_parts.ensures.long) }, omega (arith, p.1.declared_room, c.mark_starts.ensures.long), record { unseen = ap (λ (l : List Bool). take (c.args.frame.slots - 0) l) p.1.seen_blank ∙ blank_part _ _ p.1.seen_room; stack_long = p.1.stack_room; order_long = p.1.order_room })
+    (record { few = p.0.few; long = omega (arith, p.1.leads_room, c.mark_parts.ensures.long) }, omega (arith, p.1.declared_room, c.mark_starts.ensures.long), record { unseen = ap (λ (l : List Bool). take c.args.frame.slots l) p.1.seen_blank ∙ blank_part _ _ p.1.seen_room; stack_long = p.1.stack_room; order_long = p.1.order_room })
 
 pub lowest_back-requires : goal.lowest_back-requires
 lowest_back-requires c =

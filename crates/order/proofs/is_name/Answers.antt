@@ -6,6 +6,3 @@ use Rattle.order.proofs.is_name.Goals as goal
 
 pub returns-in-Value : goal.returns-in-Value
 returns-in-Value c = λ e test names. not_name test names _ _ _ _ (told c.read_below.ensures c.in-Value.is) (eqb-false _ _ e)
-
-pub returns-in-Refused : goal.returns-in-Refused
-returns-in-Refused c = λ e. absurd (true≢false e)

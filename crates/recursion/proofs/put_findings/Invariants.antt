@@ -1,8 +1,8 @@
-use Rattle.recursion.proofs.Checking.{Putting}
+-- The findings before n are in the table.
+use Prim.Native.Nat.{◌-◌}
+use lib.ListN.{replicate}
+use Rattle.findings.specs.Adding.{Adds}
 use Rattle.recursion.proofs.put_findings.Given as goal
 
-abbrev pub invariant-loop-left : goal.invariant-loop-left
-invariant-loop-left l = Putting l.initial.findings l.count l.finding l.more l.left l.n l.findings
-
-abbrev pub decreases-loop-left : goal.decreases-loop-left
-decreases-loop-left l = l.left
+abbrev pub invariant-loop-n : goal.invariant-loop-n
+invariant-loop-n l = Adds (l.n - l.count) l.initial.findings l.findings l.count l.n (replicate (l.n - l.count) l.finding)

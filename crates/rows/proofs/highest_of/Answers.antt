@@ -1,13 +1,15 @@
+use mathlib.Core.Path.{sym, ap}
 use Rattle.sizes.specs.Widths.{highest}
-use Rattle.rows.proofs.Taking.{first_run, next_run, last_run, run_end}
-use Rattle.rows.proofs.Widths.{highest_first, highest_none}
+use Rattle.rows.proofs.Taking.{first_run, next_run, last_run}
 use Rattle.rows.proofs.highest_of.Goals as goal
 
-pub loop-left-init : goal.loop-left-init
-loop-left-init c = first_run highest _ _ _ _ _ _
+pub loop-init : goal.loop-init
+loop-init c = first_run highest _ _ _ _ _ _
 
-pub loop-left-preserved : goal.loop-left-preserved
-loop-left-preserved c = next_run highest _ _ _ _ _ _ _ _ _ c.loop-left.invariant c.loop-left-test.true _ _ c.take-ordinal.ensures _ (highest_first c.loop-left.top c.take-ordinal.result.value _ c.larger-top.ensures)
+pub loop-preserved : goal.loop-preserved
+unfolding highest
+loop-preserved c = next_run highest _ _ _ _ _ _ _ _ _ c.loop.invariant c.loop-test.true _ _ c.take-ordinal.ensures _ (λ ns. ap (λ x. highest x ns) (sym c.max-top.ensures))
 
 pub returns : goal.returns
-returns c = λ os n e. (highest_none _ _ (last_run highest _ _ _ _ _ _ _ _ _ c.loop-left.invariant c.loop-left-test.false os n e), run_end highest _ _ _ _ _ _ _ _ _ c.loop-left.invariant c.loop-left-test.false os n e)
+unfolding highest
+returns c = λ os n e. let w = last_run highest _ _ _ _ _ _ _ _ _ c.loop.invariant c.loop-test.false os n e in (sym w.0, w.1)

@@ -8,17 +8,8 @@ use Rattle.rows.proofs.put_rows.Goals as goal
 pub loop-i-init : goal.loop-i-init
 loop-i-init c = no_row _ _ _
 
-pub bounds-declared-i : goal.bounds-declared-i
-bounds-declared-i c = omega (arith, c.requires.room)
-
-pub put_row-requires : goal.put_row-requires
-put_row-requires c = omega (arith, c.loop-i.invariant.long, c.requires.places)
-
 pub loop-i-preserved : goal.loop-i-preserved
 loop-i-preserved c = next_row _ _ _ _ _ c.loop-i.invariant _ (omega (arith, c.requires.promise.count)) (c.put_row.ensures ∙ ap (sets c.loop-i.rows (3 * c.loop-i.i)) (c.slot_row-row.ensures _ refl c.requires.promise (omega arith) (c.requires.declared _ c.loop-i-test.true)))
-
-pub shape_of-rows : goal.shape_of-rows
-shape_of-rows c = c.loop-i.invariant.long
 
 pub returns : goal.returns
 returns c = all_rows _ _ _ _ _ c.loop-i.invariant (omega (arith, c.requires.promise.count))

@@ -1,3 +1,4 @@
+use native.Mathlib.Omega.{arith}
 use mathlib.Core.Path.{sym, ◌∙◌}
 use Rattle.rows.proofs.Slots.{row_message, row_union, row_enum, row_flags, row_blank, row_missing}
 use Rattle.rows.proofs.slot_row.Goals as goal
@@ -15,7 +16,7 @@ pub returns-in-4 : goal.returns-in-4
 returns-in-4 c = row_union _ _ _ _ _ (sym c.slot_part.ensures ∙ c.in-At.is) _ _ c.in-4.is _ c.stored_row-in-4.ensures
 
 pub returns-in_default : goal.returns-in_default
-returns-in_default c = let r = c.in_default.in_default-own.rest in row_blank _ _ _ _ _ (sym c.slot_part.ensures ∙ c.in-At.is) _ _ r.0.0.0.1 r.0.0.1 r.0.1 r.1 _ c.blank_row.ensures
+returns-in_default c = row_blank _ _ _ _ _ (sym c.slot_part.ensures ∙ c.in-At.is) _ _ (λ q. omega arith) (λ q. omega arith) (λ q. omega arith) (λ q. omega arith) _ c.blank_row.ensures
 
 pub returns-in-Missing : goal.returns-in-Missing
 returns-in-Missing c = row_missing _ _ _ (sym c.slot_part.ensures ∙ c.in-Missing.is) _ _ _

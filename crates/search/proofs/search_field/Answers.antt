@@ -7,7 +7,7 @@ has_field-found-requires c = search_asked c.requires _ _ _ c.look_up-looked.ensu
 pub returns : goal.returns
 returns c =
     record {
-      found = found_if c.requires _ _ _ c.look_up-looked.ensures.right _ _ c.has_field-found.ensures _ c.answer.ensures.found;
-      look_ups = looks_up c.requires _ _ _ c.look_up-looked.ensures.right _ _ c.answer.ensures.look_ups c.answer.ensures.next;
+      found = found_if c.requires _ _ _ c.look_up-looked.ensures.right _ _ c.has_field-found.ensures;
+      look_ups = looks_up c.requires _ _ _ c.look_up-looked.ensures.right;
       table = places_hold c.requires _ _ _ c.look_up-looked.ensures.right;
     }

@@ -1,35 +1,20 @@
 use native.Mathlib.Omega.{arith}
-use mathlib.Core.Path.{sym, ◌∙◌}
-use Rattle.std.proofs.KnownBytes.{Consumes-nil}
-use Rattle.vexcheck.proofs.Known.{bytes_more, all_full, all_stopped}
-use Rattle.vexcheck.proofs.Reading.{on_further, stop_within}
+use mathlib.Core.Path.{sym, ap, ◌∙◌}
+use Rattle.std.specs.Prelude.{Ok}
+use Rattle.vexcheck.proofs.Known.{on_further, bytes_more, all_read}
 use Rattle.vexcheck.proofs.take_all.Goals as goal
-
-pub loop-at-init : goal.loop-at-init
-loop-at-init g c = record { within = omega arith; bytes = Consumes-nil _ }
 
 pub loop-at-smaller : goal.loop-at-smaller
 loop-at-smaller g c =
-    let f = on_further _ _ _ (sym c.after_read.ensures ∙ c.in-On.is) in
-    omega (arith, c.take_some-taken.ensures.within)
+    let more = bytes_more _ _ _ _ _ 0 _ _ _ c.loop-at.invariant.within (sym c.after_read.ensures ∙ c.in_ok-next.was ∙ ap Ok c.in-Some.is) c.read.ensures.bound c.loop-at.invariant.bytes c.read.ensures.bytes in
+    let further = on_further _ _ _ (sym c.after_read.ensures ∙ c.in_ok-next.was ∙ ap Ok c.in-Some.is) in
+    omega (arith, more.0, further.2, further.3)
 
 pub loop-at-preserved : goal.loop-at-preserved
 loop-at-preserved g c =
-    let step = sym c.after_read.ensures ∙ c.in-On.is in
-    let f = on_further _ _ _ step in
-    record {
-      within = omega (arith, c.take_some-taken.ensures.within);
-      bytes = bytes_more _ _ _ _ _ _ _ _ _ c.loop-at.invariant.within c.take_some-taken.ensures.within step f.1 c.loop-at.invariant.bytes c.take_some-taken.ensures.bytes;
-    }
+    let more = bytes_more _ _ _ _ _ _ _ _ _ c.loop-at.invariant.within (sym c.after_read.ensures ∙ c.in_ok-next.was ∙ ap Ok c.in-Some.is) c.read.ensures.bound c.loop-at.invariant.bytes c.read.ensures.bytes in
+    record { within = omega (arith, more.0); bytes = more.1 }
 
-pub returns-in-Stop : goal.returns-in-Stop
-returns-in-Stop g c =
-    let step = sym c.after_read.ensures ∙ c.in-Stop.is in
-    let f = stop_within _ _ _ step in
-    record {
-      within = omega arith;
-      bytes = all_stopped _ _ _ _ _ _ _ _ _ c.loop-at.invariant.within (omega arith) (omega arith) step c.loop-at.invariant.bytes c.take_some-taken.ensures.bytes;
-    }
-
-pub returns : goal.returns
-returns g c = record { within = omega arith; bytes = all_full _ _ _ _ c.loop-at.invariant.within c.loop-at-test.false c.loop-at.invariant.bytes }
+pub returns-in-None-clause-bytes : goal.returns-in-None-clause-bytes
+returns-in-None-clause-bytes g c =
+    all_read _ _ _ _ _ _ _ _ c.loop-at.invariant.within (omega arith) (omega arith) (sym c.after_read.ensures ∙ c.in_ok-next.was ∙ ap Ok c.in-None.is) c.loop-at.invariant.bytes c.read.ensures.bytes

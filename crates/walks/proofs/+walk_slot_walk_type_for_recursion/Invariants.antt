@@ -1,4 +1,4 @@
-use Prim.Native.Nat.{◌*◌, ◌+◌, ◌-◌}
+use Prim.Native.Nat.{◌*◌, ◌+◌}
 use Rattle.graph.specs.Loops.{unvisited}
 use Rattle.walks.specs.Walk.{Held}
 use Rattle.walks.proofs.Along.{Along}
@@ -11,7 +11,4 @@ abbrev pub decreases-walk_type_for_recursion : goal.decreases-walk_type_for_recu
 decreases-walk_type_for_recursion l = unvisited l.state.visited * 2
 
 abbrev pub invariant-walk_slot-loop-p : goal.invariant-walk_slot-loop-p
-invariant-walk_slot-loop-p l = (S : _) → Held S l.messages l.first l.parts → Along S l.first l.parts l.slot l.direct l.initial.s l.p l.s
-
-abbrev pub decreases-walk_slot-loop-p : goal.decreases-walk_slot-loop-p
-decreases-walk_slot-loop-p l = l.end - l.p
+invariant-walk_slot-loop-p l = (S : _) → Held S l.messages l.first l.parts → Along S l.first l.parts l.slot l.direct l.initial.after l.p l.after

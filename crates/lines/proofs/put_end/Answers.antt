@@ -1,5 +1,0 @@
-use Rattle.lines.proofs.Pieces.{end_put}
-use Rattle.lines.proofs.put_end.Goals as goal
-
-pub returns : goal.returns
-returns c = end_put _ c.put_line.ensures

@@ -1,5 +1,0 @@
-use Rattle.vexil.proofs.Saying.{check_said}
-use Rattle.vexil.proofs.vexil_check_aligned_two.Goals as goal
-
-pub returns : goal.returns
-returns c = check_said _ _ _ _ _ _ _ _ _ _ c.check_aligned_two.ensures c.tell_verdict.ensures

@@ -1,5 +1,0 @@
-use Rattle.vexil.proofs.Saying.{read_said}
-use Rattle.vexil.proofs.vexil_read.Goals as goal
-
-pub returns : goal.returns
-returns c = read_said _ _ _ _ _ _ _ _ c.read_schema-read.ensures c.tell_read.ensures
