@@ -37,7 +37,7 @@ fn all_files() -> Vec<PathBuf> {
 }
 
 /// These pages tell of what is gone too.
-const OF_OLD: [&str; 3] = ["CHANGES.md", "PORT.md", "DESIGN-PASS.md"];
+const OF_OLD: [&str; 4] = ["CHANGES.md", "PORT.md", "DESIGN-PASS.md", "LOOK-BACK.md"];
 
 /// The pages that tell of what is there.
 fn pages() -> Vec<(String, String)> {
