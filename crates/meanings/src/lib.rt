@@ -158,6 +158,7 @@ fn look_up_leaf(
     arguments: u64,
     places: &mut [u32],
 ) -> u64
+    ensures one { kind ≡ 3 → result ≡ 1 }
     ensures small { result ≤ 1 }
     ensures right { RightLeafLook names image.now kind v params start arguments places.old places.new result }
 {

@@ -33,7 +33,9 @@ fn fit(table: &[usize], into: &mut [usize])
 fn tell_read(read: Read, starts: &mut [usize]) -> Answer
     ensures { (result.number ≡ number_of read.answer) × (result.value ≡ value_of read.answer) × (starts.new ≡ fitted (length starts.old) read.starts) }
 {
-    fit(&read.starts, starts);
+    // The table by itself: lent out of `read`, the whole of it is put together first, which copies the table once more.
+    let table = read.starts;
+    fit(&table, starts);
     let (number, value) = match read.answer {
         Reading::Accepted(frame) => (0, frame.slots),
         Reading::Refused(number, place) => (u64::from(number), place as u64),

@@ -55,8 +55,12 @@ fn walk_type_for_recursion(
     if id >= 512 {
         return state;
     }
+    // Two returns: the larger state would be copied twice more where both ways meet.
     if state.path[id] {
-        return if bare { count_one(state) } else { state };
+        if bare {
+            return count_one(state);
+        }
+        return state;
     }
     if state.visited[id] {
         return state;

@@ -31,8 +31,8 @@ pub walk_type_for_recursion-returns-then-bare : goal.walk_type_for_recursion-ret
 walk_type_for_recursion-returns-then-bare t c =
     rw c.count_one.ensures (name_found _ _ _ _ _ c.from-id.ensures _ _ _ (search rules) c.if-state-id.true c.if-bare.true)
 
-pub walk_type_for_recursion-returns-else-bare : goal.walk_type_for_recursion-returns-else-bare
-walk_type_for_recursion-returns-else-bare t c = name_back _ _ _ _ _ c.from-id.ensures _ _ _ (search rules) c.if-state-id.true c.if-bare.false
+pub walk_type_for_recursion-returns-then-state-id : goal.walk_type_for_recursion-returns-then-state-id
+walk_type_for_recursion-returns-then-state-id t c = name_back _ _ _ _ _ c.from-id.ensures _ _ _ (search rules) c.if-state-id.true c.if-bare.false
 
 pub walk_type_for_recursion-returns-then-state-id-2 : goal.walk_type_for_recursion-returns-then-state-id-2
 walk_type_for_recursion-returns-then-state-id-2 t c = name_visited _ _ _ _ _ c.from-id.ensures _ c.if-direct.bare _ (search rules) c.if-state-id.false c.if-state-id-2.true
